@@ -1,0 +1,14 @@
+pub mod Tests
+pub mod Bags
+pub mod Indices
+pub mod Ranges
+pub mod Folds
+pub mod Sets
+pub mod Counting
+pub mod Words
+pub mod Visits
+pub mod Levels
+pub mod Loops
+pub mod Events
+pub mod Stacks
+pub mod Tasks

@@ -1,0 +1,5 @@
+pub mod Tests
+pub mod Lists
+pub mod Sets
+pub mod Search
+pub mod Words

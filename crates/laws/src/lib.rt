@@ -1,0 +1,1 @@
+// Definitions and lemmas on lists, words and depth-first search; no code.

@@ -1,0 +1,11 @@
+pub mod Netlist
+pub mod Cells
+pub mod Graph
+pub mod Build
+pub mod Stages
+pub mod Bounds
+pub mod Tables
+pub mod Refusals
+pub mod Work
+pub mod Answers
+pub mod Hand
