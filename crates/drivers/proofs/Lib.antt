@@ -1,2 +1,3 @@
 pub mod Decode
 pub mod Rows
+pub mod Said

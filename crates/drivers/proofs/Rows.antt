@@ -7,9 +7,10 @@ use native.Mathlib.Omega.{arith}
 use lib.Dec.{ltb}
 use borrow.Author.Tests.{ltb-true, ltb-false}
 use lib.ListN.{length, getD, set, length-set, length-append, List·getD-append}
-use lib.Seq.{getD-set-same, getD-set-other, getD-append-add}
+use lib.Seq.{getD-set-same, getD-set-other, ext-getD}
 use Rattle.laws.specs.Words.{ZeroFrom}
 use Rattle.laws.proofs.Tests.{byTest}
+use Rattle.laws.proofs.Ranges.{map-upto, length-map-upto}
 use Rattle.rules.specs.declared.Edge.{Edge}
 use Rattle.rules.specs.declared.Edge.the-variants.{Rising, Falling}
 use Rattle.rules.specs.declared.Driver.{Driver}
@@ -17,7 +18,7 @@ use Rattle.rules.specs.declared.Driver.the-variants.{And, Port, Flag, Dff, Ram,
 use Rattle.rules.specs.declared.Decoded.{Decoded}
 use Rattle.rules.specs.declared.Decoded.the-variants.{Is, Bad}
 use Rattle.rules.specs.Graph.{driverAt}
-use Rattle.rules.specs.Tables.{edgeWord, driverWords, decode, decodeAt}
+use Rattle.rules.specs.Tables.{decode, decodeAt, driverOr, driversIn}
 use Rattle.drivers.specs.Written.{wordOf, written, Holds}
 
 -- the words of a driver say that driver
@@ -108,3 +109,15 @@ module _ (ws : List ℕ) (ds : List Driver) (d : Driver) (h : Holds ws ds) (fits
 
   pub holds-more : Holds (written ws (length ds) d) (ds ++ (d ∷ []))
   holds-more = record { long = rw (written-length ws (length ds) d, one-longer ds d) (omega arith); row = row-after; rest = rest-after }
+
+-- the drivers of a table that holds them
+pub holds-drivers : (ws : List ℕ) (ds : List Driver) (pins : ℕ) → Holds ws ds → length ds ≡ pins + 1 → driversIn ws pins ≡ ds
+holds-drivers ws ds pins h l =
+    ext-getD Constant (driversIn ws pins) ds (long ∙ sym l) (λ i k.
+    map-upto (λ u. driverOr (decodeAt ws u)) Constant (pins + 1) i (omega (arith, k, long)) ∙ ap driverOr (h .row i (omega (arith, k, long, l))))
+  where
+  long : length (driversIn ws pins) ≡ pins + 1
+  long = length-map-upto (λ u. driverOr (decodeAt ws u)) (pins + 1)
+
+pub drivers-long : (ws : List ℕ) (pins : ℕ) → length (driversIn ws pins) ≡ pins + 1
+drivers-long ws pins = length-map-upto (λ u. driverOr (decodeAt ws u)) (pins + 1)

@@ -1,0 +1,93 @@
+use Rattle.gates.proofs.Steps.{pair-old, pair-full, pair-new}
+use borrow.Author.Needs.{needs}
+use Rattle.gates.proofs.pair_gate.Statement.{statement}
+use Rattle.gates.proofs.pair_gate.Tie as tie
+use Rattle.gates.proofs.pair_gate.Reads as reads
+use Rattle.gates.proofs.pair_gate.Lts as lts
+use Rattle.drivers.proofs.put_driver.Reads as put-driver-reads
+use Rattle.gates.proofs.find_pair.Reads as find-pair-reads
+
+-- src/lib.rt:53:9
+find-pair-requires : tie.Need-find-pair-requires
+find-pair-requires c κs = search needs
+
+-- src/lib.rt:55:45
+mul-t13 : tie.Need-mul-t13
+mul-t13 c = search needs
+
+-- src/lib.rt:55:9
+same-length : tie.Need-same-length
+same-length c = search needs
+
+-- src/lib.rt:55:9
+same-length-2 : tie.Need-same-length-2
+same-length-2 c = search needs
+
+-- src/lib.rt:55:9
+returns : tie.Need-returns
+returns c = search pair-old
+
+-- src/lib.rt:57:14
+cast-at : tie.Need-cast-at
+cast-at c = search needs
+
+-- src/lib.rt:58:24
+mul-if2 : tie.Need-mul-if2
+mul-if2 c = search needs
+
+-- src/lib.rt:58:24
+add-if2 : tie.Need-add-if2
+add-if2 c = search needs
+
+-- src/lib.rt:59:9
+same-length-3 : tie.Need-same-length-3
+same-length-3 c = search needs
+
+-- src/lib.rt:59:9
+same-length-4 : tie.Need-same-length-4
+same-length-4 c = search needs
+
+-- src/lib.rt:59:9
+returns-2 : tie.Need-returns-2
+returns-2 c = search pair-full
+
+-- src/lib.rt:61:5
+put-driver-requires : tie.Need-put-driver-requires
+put-driver-requires c κs = search needs
+
+-- src/lib.rt:66:34
+mul-t24 : tie.Need-mul-t24
+mul-t24 c = search needs
+
+-- src/lib.rt:49:1
+same-length-5 : tie.Need-same-length-5
+same-length-5 c = search needs
+
+-- src/lib.rt:49:1
+same-length-6 : tie.Need-same-length-6
+same-length-6 c = search needs
+
+-- src/lib.rt:49:1
+returns-3 : tie.Need-returns-3
+returns-3 c = search pair-new
+
+pub pair-gate-spec : {M : Type 1} → statement M
+pair-gate-spec =
+    tie.close
+    (tie.spec
+    find-pair-requires
+    mul-t13
+    same-length
+    same-length-2
+    returns
+    cast-at
+    mul-if2
+    add-if2
+    same-length-3
+    same-length-4
+    returns-2
+    put-driver-requires
+    mul-t24
+    same-length-5
+    same-length-6
+    returns-3)
