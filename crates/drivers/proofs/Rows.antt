@@ -116,8 +116,8 @@ holds-drivers ws ds pins h l =
     ext-getD Constant (driversIn ws pins) ds (long ∙ sym l) (λ i k.
     map-upto (λ u. driverOr (decodeAt ws u)) Constant (pins + 1) i (omega (arith, k, long)) ∙ ap driverOr (h .row i (omega (arith, k, long, l))))
   where
-  long : length (driversIn ws pins) ≡ pins + 1
-  long = length-map-upto (λ u. driverOr (decodeAt ws u)) (pins + 1)
+    long : length (driversIn ws pins) ≡ pins + 1
+    long = length-map-upto (λ u. driverOr (decodeAt ws u)) (pins + 1)
 
 pub drivers-long : (ws : List ℕ) (pins : ℕ) → length (driversIn ws pins) ≡ pins + 1
 drivers-long ws pins = length-map-upto (λ u. driverOr (decodeAt ws u)) (pins + 1)

@@ -37,8 +37,8 @@ flag-is : (a b : ℕ) (d : Driver) → flagIn a b ≡ Is d → Words 3 a b d
 flag-is a b d e = byTest (b == 0)
     (λ y. same-is 3 a b (Flag a Rising) d (record { tag = refl; first = refl; second = eqb-true b 0 y }) (rw y at e))
     (λ f. byTest (b == 1)
-        (λ y. same-is 3 a b (Flag a Falling) d (record { tag = refl; first = refl; second = eqb-true b 1 y }) (rw (f, y) at e))
-        (λ g. bad-is d (rw (f, g) at e)))
+    (λ y. same-is 3 a b (Flag a Falling) d (record { tag = refl; first = refl; second = eqb-true b 1 y }) (rw (f, y) at e))
+    (λ g. bad-is d (rw (f, g) at e)))
 
 constant-is : (a b : ℕ) (d : Driver) → decode 0 a b ≡ Is d → Words 0 a b d
 constant-is a b d e = byTest (a == 0)
@@ -47,11 +47,17 @@ constant-is a b d e = byTest (a == 0)
 
 past-is : (t a b : ℕ) (d : Driver) → decode (suc (suc (suc (suc (suc (suc t)))))) a b ≡ Is d → ⊥
 past-is t a b d e = bad-is d
-    (rw (ne-eqb s 0 (λ z. omega (arith, z)), ne-eqb s 1 (λ z. omega (arith, z)), ne-eqb s 2 (λ z. omega (arith, z)),
-        ne-eqb s 3 (λ z. omega (arith, z)), ne-eqb s 4 (λ z. omega (arith, z)), ne-eqb s 5 (λ z. omega (arith, z))) at e)
+    (rw (
+      ne-eqb s 0 (λ z. omega (arith, z)),
+      ne-eqb s 1 (λ z. omega (arith, z)),
+      ne-eqb s 2 (λ z. omega (arith, z)),
+      ne-eqb s 3 (λ z. omega (arith, z)),
+      ne-eqb s 4 (λ z. omega (arith, z)),
+      ne-eqb s 5 (λ z. omega (arith, z)),
+    ) at e)
   where
-  s : ℕ
-  s = suc (suc (suc (suc (suc (suc t)))))
+    s : ℕ
+    s = suc (suc (suc (suc (suc (suc t)))))
 
 pub said : (t a b : ℕ) (d : Driver) → decode t a b ≡ Is d → Words t a b d
 said zero a b d e = constant-is a b d e

@@ -32,7 +32,8 @@ module _ (index ws : List ℕ) (pins lo hi p : ℕ) (ready : Ready index ws pins
   pub search-goes-on : (r : Bool) → p ≤ pins → r ≡ isPairAt ws p lo hi → r ≡ false → Searching ws pins lo hi (p + 1)
   search-goes-on r l e f = record {
     below = omega arith;
-    passed = miss (isPair lo hi) (driversIn ws pins) p (s .passed) (inside l) (sym (row l) ∙ sym e ∙ f) }
+    passed = miss (isPair lo hi) (driversIn ws pins) p (s .passed) (inside l) (sym (row l) ∙ sym e ∙ f);
+  }
 
   pub search-ends : pins < p → p ≡ firstPin (isPair lo hi) (driversIn ws pins)
   search-ends l = none (isPair lo hi) (driversIn ws pins) p (s .passed) (omega (arith, l, s .below, drivers-long ws pins))

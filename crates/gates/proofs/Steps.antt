@@ -27,23 +27,26 @@ pub ready-holds : (index ws : List ℕ) (ds : List Driver) (pins : ℕ) → Hold
 ready-holds index ws ds pins h l b = record {
   held = subst (Holds ws) (sym (holds-drivers ws ds pins h l)) h;
   long = omega (arith, h .long, l);
-  bounded = b }
+  bounded = b;
+}
 
 -- a step that makes nothing
 unchanged : (m : Made) (index ws : List ℕ) (pins l : ℕ) → Ready index ws pins → _≡_ {A = Made} m (record { drivers = driversIn ws pins; lit = l })
     → Leaves m index ws index ws (Got (literal l) pins)
 unchanged m index ws pins l d e = subst (λ (x : Made). Leaves x index ws index ws (Got (literal l) pins)) (sym e)
     (grown (record {
-    room = omega (arith, d .long, long);
-    answer = ap (λ (k : ℕ). Got (literal l) k) (sym count);
-    drivers = ap (driversIn ws) count;
-    ready = subst (Ready index ws) (sym count) d;
-    same-length = refl }))
+      room = omega (arith, d .long, long);
+      answer = ap (λ (k : ℕ). Got (literal l) k) (sym count);
+      drivers = ap (driversIn ws) count;
+      ready = subst (Ready index ws) (sym count) d;
+      same-length = refl;
+    }))
   where
-  long : length (driversIn ws pins) ≡ pins + 1
-  long = drivers-long ws pins
-  count : length (driversIn ws pins) - 1 ≡ pins
-  count = omega (arith, long)
+    long : length (driversIn ws pins) ≡ pins + 1
+    long = drivers-long ws pins
+
+    count : length (driversIn ws pins) - 1 ≡ pins
+    count = omega (arith, long)
 
 module _ (index ws : List ℕ) (pins lo hi r : ℕ) (ready : Ready index ws pins) (found : r ≡ firstPin (isPair lo hi) (driversIn ws pins)) where
   ds : List Driver
@@ -74,22 +77,26 @@ module _ (index ws : List ℕ) (pins lo hi r : ℕ) (ready : Ready index ws pins
         → Paired index ws pins lo hi index ws′ (Got (literal (2 * r)) r)
     pair-new ws′ s e = subst (λ (x : Made). Leaves x index ws index ws′ (Got (literal (2 * r)) r)) (sym new)
         (grown (record {
-        room = omega (arith, s, next, one);
-        answer = ap (λ (k : ℕ). Got (literal (2 * r)) k) (sym count);
-        drivers = ap (driversIn ws′) count ∙ holds-drivers ws′ (driversIn ws pins ++ (gate lo hi ∷ [])) r held (one ∙ omega (arith, next));
-        ready = subst (Ready index ws′) (sym count)
-            (ready-holds index ws′ (driversIn ws pins ++ (gate lo hi ∷ [])) r held (one ∙ omega (arith, next)) (omega (arith, same, ready .bounded)));
-        same-length = same }))
+          room = omega (arith, s, next, one);
+          answer = ap (λ (k : ℕ). Got (literal (2 * r)) k) (sym count);
+          drivers = ap (driversIn ws′) count ∙ holds-drivers ws′ (driversIn ws pins ++ (gate lo hi ∷ [])) r held (one ∙ omega (arith, next));
+          ready = subst (Ready index ws′) (sym count)
+              (ready-holds index ws′ (driversIn ws pins ++ (gate lo hi ∷ [])) r held (one ∙ omega (arith, next)) (omega (arith, same, ready .bounded)));
+          same-length = same;
+        }))
       where
-      one : length (driversIn ws pins ++ (gate lo hi ∷ [])) ≡ length (driversIn ws pins) + 1
-      one = one-longer (driversIn ws pins) (gate lo hi)
-      count : length (driversIn ws pins ++ (gate lo hi ∷ [])) - 1 ≡ r
-      count = omega (arith, one, next)
-      same : length ws′ ≡ length ws
-      same = ap length e ∙ written-length ws r (gate lo hi)
-      held : Holds ws′ (driversIn ws pins ++ (gate lo hi ∷ []))
-      held = subst (λ (w : List ℕ). Holds w (driversIn ws pins ++ (gate lo hi ∷ []))) (sym (e ∙ ap (λ (u : ℕ). written ws u (gate lo hi)) next))
-          (holds-more ws (driversIn ws pins) (gate lo hi) (ready .held) (omega (arith, s, next)))
+        one : length (driversIn ws pins ++ (gate lo hi ∷ [])) ≡ length (driversIn ws pins) + 1
+        one = one-longer (driversIn ws pins) (gate lo hi)
+
+        count : length (driversIn ws pins ++ (gate lo hi ∷ [])) - 1 ≡ r
+        count = omega (arith, one, next)
+
+        same : length ws′ ≡ length ws
+        same = ap length e ∙ written-length ws r (gate lo hi)
+
+        held : Holds ws′ (driversIn ws pins ++ (gate lo hi ∷ []))
+        held = subst (λ (w : List ℕ). Holds w (driversIn ws pins ++ (gate lo hi ∷ []))) (sym (e ∙ ap (λ (u : ℕ). written ws u (gate lo hi)) next))
+            (holds-more ws (driversIn ws pins) (gate lo hi) (ready .held) (omega (arith, s, next)))
 
 -- ---- the six ways of the AND, in order
 module _ (index ws : List ℕ) (pins a b : ℕ) (ready : Ready index ws pins) where

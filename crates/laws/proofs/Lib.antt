@@ -12,3 +12,4 @@ pub mod Loops
 pub mod Events
 pub mod Stacks
 pub mod Tasks
+pub mod Scans

@@ -207,3 +207,7 @@ placed-remove t s x i g b h e = record {
 
     x-in : 0 < count x s
     x-in = subst (λ (q : ℕ). 0 < count q s) e (at-in s i h)
+
+-- removal does not keep the order of those who stay
+removal-moves-last : remove (10 ∷ 20 ∷ 30 ∷ 40 ∷ []) 20 ≡ 10 ∷ 40 ∷ 30 ∷ []
+removal-moves-last = refl

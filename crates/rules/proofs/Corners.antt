@@ -1,13 +1,17 @@
 -- Orders that document 01's own numbers do not show, as the Rust printed them.
 use mathlib.Core.Path.{_≡_, refl}
 use mathlib.Core.List.{[], _∷_}
+use mathlib.Core.Option.{none, some}
 use Rattle.laws.specs.Lists.{upto}
 use Rattle.rules.specs.declared.Driver.the-variants.{Port, Flag, Dff, Constant}
 use Rattle.rules.specs.declared.Edge.the-variants.{Rising}
 use Rattle.rules.specs.Netlist.{Netlist}
 use Rattle.rules.specs.Graph.{gate, andOf}
 use Rattle.rules.specs.Build.{step2, step3}
-use Rattle.rules.specs.Hand.{build, built}
+use Rattle.rules.specs.Stages.{split, stagesFrom}
+use Rattle.rules.specs.Tables.{decodeAt}
+use Rattle.rules.specs.Answers.{stagesNumber}
+use Rattle.rules.specs.Hand.{build, built, stage, staged, st, M9}
 
 -- an AND2 whose output is the lowest pin: A's port is numbered before B's
 abbrev andFirst : Netlist
@@ -136,3 +140,9 @@ pub fanouts-fall : build readTwice ≡ built (record {
 })
 unfolding andOf step2 step3
 fanouts-fall = refl
+
+-- what any earlier stage handed on is not handed on again
+pub handed-once : stage M9 (0 ∷ 1 ∷ 2 ∷ [])
+    ≡ staged (st 0 (some 0) (4 ∷ 3 ∷ 1 ∷ 2 ∷ []) [] ∷ st 0 (some 1) (5 ∷ []) [] ∷ st 1 (some 2) (6 ∷ []) [] ∷ st 2 none [] (0 ∷ []) ∷ [])
+unfolding split stagesFrom decodeAt stagesNumber
+handed-once = refl

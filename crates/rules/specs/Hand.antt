@@ -138,7 +138,7 @@ abbrev single : List Driver
 single = Constant ∷ Port 0 ∷ []
 
 -- a stage row as document 01 writes it
-abbrev st : ℕ → Option ℕ → List ℕ → List ℕ → Row
+abbrev pub st : ℕ → Option ℕ → List ℕ → List ℕ → Row
 st a b h t = row a b (record { handed = h; taken = t })
 
 -- ---- the table

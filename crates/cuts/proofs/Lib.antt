@@ -1,0 +1,14 @@
+pub mod Lists
+pub mod Checked
+pub mod Operands
+pub mod Order
+pub mod Joining
+pub mod Gone
+pub mod Exact
+pub mod Next
+pub mod Running
+pub mod Space
+pub mod Endings
+pub mod Stages
+pub mod Depths
+pub mod Rooms

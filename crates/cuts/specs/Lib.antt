@@ -1,0 +1,4 @@
+pub mod Checked
+pub mod Onward
+pub mod Turns
+pub mod Depths

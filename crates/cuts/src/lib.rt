@@ -1,0 +1,1 @@
+// Laws of one split and of the stages; no code.
