@@ -10,7 +10,8 @@ use Rattle.rules.specs.Stages.{endpointCount, split, stagesFrom, stages}
 use Rattle.rules.specs.Work.{sourceBits, worked}
 use Rattle.rules.specs.Tables.{decodeAt, allTaken}
 use Rattle.rules.specs.Refusals.{somethingRead}
-use Rattle.rules.specs.Hand.{M9, countsOf, wordsOf}
+use Rattle.rules.specs.Tables.{countsOf, wordsOf}
+use Rattle.rules.specs.Hand.{M9}
 use Rattle.cuts.specs.Checked.{Checked}
 use Rattle.cuts.proofs.Checked.{graph-checked}
 use Rattle.demands.specs.Demand3.{LegalCut, WithEqualLevels}

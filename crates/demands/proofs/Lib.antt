@@ -6,3 +6,7 @@ pub mod EqualLevels
 pub mod Repeated
 pub mod Demand3Calls
 pub mod Sharp
+pub mod Sources2
+pub mod Demand2
+pub mod Calls2
+pub mod Shown2

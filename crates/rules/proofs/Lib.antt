@@ -1,3 +1,11 @@
 pub mod Literals
 pub mod Hand
 pub mod Corners
+pub mod Tables
+pub mod Roles
+pub mod Loops
+pub mod Markers
+pub mod Activity
+pub mod Accepts
+pub mod Formulas
+pub mod Numbers

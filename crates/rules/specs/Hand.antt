@@ -8,14 +8,13 @@ use Rattle.laws.specs.Lists.{flat, upto}
 use Rattle.rules.specs.declared.Driver.{Driver}
 use Rattle.rules.specs.declared.Driver.the-variants.{Port, Flag, Dff, Constant}
 use Rattle.rules.specs.declared.Edge.the-variants.{Rising}
-use Rattle.rules.specs.declared.GraphCounts.{GraphCounts}
 use Rattle.rules.specs.Netlist.{Netlist}
 use Rattle.rules.specs.Cells.{flopOut}
 use Rattle.rules.specs.Graph.{Graph, Made, gate, andOf}
 use Rattle.rules.specs.Build.{graphOf, literalsOf, fanoutStarts, fanouts}
 use Rattle.rules.specs.Stages.{Row, stages, row}
 use Rattle.rules.specs.Bounds.{maxList, maxStages, stageWork}
-use Rattle.rules.specs.Tables.{driverWords, recordWords, ramWords, GraphWords, graphIn}
+use Rattle.rules.specs.Tables.{countsOf, wordsOf, graphIn}
 use Rattle.rules.specs.Refusals.{netlistNumber}
 use Rattle.rules.specs.Answers.{stagesNumber}
 
@@ -44,12 +43,6 @@ build n = elim (netlistNumber n) [
 -- whether a netlist is turned away, without its graph
 abbrev pub check : Netlist → Reply
 check n = elim (netlistNumber n) [ zero ↦ accepted | suc k ↦ refused (suc k) ]
-
-abbrev pub countsOf : Graph → GraphCounts
-countsOf g = record { pins = length (g .drivers) - 1; outputs = length (g .outputs); dffs = length (g .dffs); rams = length (g .rams) }
-
-abbrev pub wordsOf : Graph → GraphWords
-wordsOf g = record { drivers = flat driverWords (g .drivers); outputs = g .outputs; dffs = flat recordWords (g .dffs); rams = flat ramWords (g .rams) }
 
 -- the call for stages, with all the room that it may ask for
 abbrev pub stage : Graph → List ℕ → Reply

@@ -2,7 +2,7 @@
 use mathlib.Core.Bool.{Bool, true, false, _&&_}
 use mathlib.Core.List.{List, [], _∷_, _++_, map}
 use mathlib.Core.Option.{Option, none, some}
-use Prim.Native.Nat.{ℕ, zero, suc, _+_, _*_}
+use Prim.Native.Nat.{ℕ, zero, suc, _+_, _-_, _*_}
 use lib.ListN.{length, getD}
 use Rattle.laws.specs.Tests.{if_then_else_, _==_}
 use Rattle.laws.specs.Lists.{flat, upto}
@@ -97,6 +97,13 @@ graphIn c t = record {
   dffs = map (recordIn (t .dffs)) (upto (c .dffs));
   rams = map (ramIn (t .rams)) (upto (c .rams));
 }
+
+-- a graph as it would be handed in
+abbrev pub countsOf : Graph → GraphCounts
+countsOf g = record { pins = length (g .drivers) - 1; outputs = length (g .outputs); dffs = length (g .dffs); rams = length (g .rams) }
+
+abbrev pub wordsOf : Graph → GraphWords
+wordsOf g = record { drivers = flat driverWords (g .drivers); outputs = g .outputs; dffs = flat recordWords (g .dffs); rams = flat ramWords (g .rams) }
 
 -- ---- the stages in words: lower, upper (4,294,967,295: no upper end), how many pins are handed on, how many endpoints are taken
 abbrev pub endMarker : ℕ

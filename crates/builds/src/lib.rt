@@ -1,0 +1,1 @@
+// Laws of building a graph; no code.
