@@ -1,0 +1,3 @@
+pub mod Pins
+pub mod Fillings
+pub mod Answers

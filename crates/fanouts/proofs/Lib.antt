@@ -1,0 +1,6 @@
+pub mod Readings
+pub mod Counts
+pub mod Sums
+pub mod Places
+pub mod Ties
+pub mod Answers

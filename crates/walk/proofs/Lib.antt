@@ -1,0 +1,9 @@
+pub mod Leads
+pub mod Nexts
+pub mod Turns
+pub mod Visits
+pub mod Forgets
+pub mod Fits
+pub mod Numbers
+pub mod Handed
+pub mod Only
