@@ -2,9 +2,16 @@
 use evaluate::evaluate;
 use fanouts::fanouts;
 use graphs::check_graph;
+use inputs::endpoint_input;
+use inputs::staged_input;
 use rules::Done;
+use rules::Endpoint;
+use rules::Found;
 use rules::GraphCounts;
 use rules::Listed;
+use rules::Read;
+use subsets::get_endpoint_group;
+use subsets::staged_endpoint_group;
 use traverse::topo_traverse_generic;
 use words::all_zero;
 
@@ -228,6 +235,97 @@ fn fan_cases() {
     fans(b"wrong length", &M1, &mut eight);
 }
 
+// An endpoint as two words: its case and its index; a refusal as 9 and its number.
+fn print_group(label: &[u8], f: Found) {
+    match f {
+        Found::At(e) => match e {
+            Endpoint::Output(k) => print_words(label, &[0, k]),
+            Endpoint::Flop(k) => print_words(label, &[1, k]),
+            Endpoint::Memory(k) => print_words(label, &[2, k]),
+            Endpoint::Handed(p) => print_words(label, &[3, p]),
+        },
+        Found::Refused(n) => print_words(label, &[9, n]),
+    }
+}
+
+fn print_read(label: &[u8], r: Read) {
+    match r {
+        Read::Pin(p) => print_words(label, &[0, p]),
+        Read::Refused(n) => print_words(label, &[9, n]),
+    }
+}
+
+// An output, a flip-flop that reads a constant and pin 2, and a RAM that reads pins 1 and 2.
+fn lookups() {
+    let c = counts(5, 1, 1, 1);
+    let mut ram = [0u32; 123];
+    ram[0] = 2;
+    ram[60] = 5;
+    print_group(b"endpoint 0", get_endpoint_group(c, 0));
+    print_group(b"endpoint 1", get_endpoint_group(c, 1));
+    print_group(b"endpoint 2", get_endpoint_group(c, 2));
+    print_group(b"endpoint 3", get_endpoint_group(c, 3));
+    print_read(
+        b"input 0 of the output",
+        endpoint_input(c, &[4], &[5, 0, 3], &ram, 0, 0),
+    );
+    print_read(
+        b"input 1 of the output",
+        endpoint_input(c, &[4], &[5, 0, 3], &ram, 0, 1),
+    );
+    print_read(
+        b"input 0 of the flip-flop",
+        endpoint_input(c, &[4], &[5, 0, 3], &ram, 1, 0),
+    );
+    print_read(
+        b"input 0 of the RAM",
+        endpoint_input(c, &[4], &[5, 0, 3], &ram, 2, 0),
+    );
+    print_read(
+        b"input 1 of the RAM",
+        endpoint_input(c, &[4], &[5, 0, 3], &ram, 2, 1),
+    );
+    print_read(
+        b"input 2 of the RAM",
+        endpoint_input(c, &[4], &[5, 0, 3], &ram, 2, 2),
+    );
+    print_read(
+        b"input of endpoint 3",
+        endpoint_input(c, &[4], &[5, 0, 3], &ram, 3, 0),
+    );
+    print_read(
+        b"short table",
+        endpoint_input(c, &[], &[5, 0, 3], &ram, 0, 0),
+    );
+}
+
+// A stage that hands on pins 4 and 0 and takes endpoints 2 and 7.
+fn stage_lookups() {
+    let c = counts(5, 1, 1, 1);
+    let mut ram = [0u32; 123];
+    ram[0] = 2;
+    print_group(b"place 0", staged_endpoint_group(c, &[4, 0], &[2, 7], 0));
+    print_group(b"place 2", staged_endpoint_group(c, &[4, 0], &[2, 7], 2));
+    print_group(b"place 3", staged_endpoint_group(c, &[4, 0], &[2, 7], 3));
+    print_group(b"place 4", staged_endpoint_group(c, &[4, 0], &[2, 7], 4));
+    print_read(
+        b"input of place 0",
+        staged_input(c, &[4], &[5, 0, 3], &ram, &[4, 0], &[2, 7], 0, 0),
+    );
+    print_read(
+        b"input of place 1",
+        staged_input(c, &[4], &[5, 0, 3], &ram, &[4, 0], &[2, 7], 1, 0),
+    );
+    print_read(
+        b"input of place 2",
+        staged_input(c, &[4], &[5, 0, 3], &ram, &[4, 0], &[2, 7], 2, 0),
+    );
+    print_read(
+        b"input of place 3",
+        staged_input(c, &[4], &[5, 0, 3], &ram, &[4, 0], &[2, 7], 3, 0),
+    );
+}
+
 fn main() {
     checks();
     record_checks();
@@ -236,4 +334,6 @@ fn main() {
     values(b"source 3 zero", &[0, 1, 1, 0, 1, 0, 0, 0]);
     values(b"too few sources", &[0, 1, 1, 1]);
     fan_cases();
+    lookups();
+    stage_lookups();
 }

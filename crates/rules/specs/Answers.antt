@@ -221,9 +221,26 @@ subsetNumber s is handed taken =
 unfoldable pub endpointNumber : GraphCounts → ℕ → ℕ
 endpointNumber c e = orElse (refuse 1 (graphWithin c)) (refuse 15 (e <? endpoints c))
 
--- an endpoint's input number i
+-- an endpoint's input number i: only the tables of endpoints are read
+abbrev pub endsLong : GraphCounts → GraphWords → Bool
+endsLong c t = (length (t .outputs) == c .outputs) && (length (t .dffs) == 3 * c .dffs) && (length (t .rams) == 123 * c .rams)
+
 unfoldable pub inputNumber : GraphCounts → GraphWords → ℕ → ℕ → ℕ
 inputNumber c t e i =
     orElse (refuse 1 (graphWithin c))
-    (orElse (refuse 2 (graphLong c t))
+    (orElse (refuse 2 (endsLong c t))
     (refuse 15 ((e <? endpoints c) && (i <? length (inputs (graphIn c t) e)))))
+
+-- the same of a stage's endpoint by its place: a handed-on pin reads itself; what is not there reads nothing
+abbrev pub endInputs : GraphCounts → GraphWords → ℕ → List ℕ
+endInputs c t e = if e <? endpoints c then inputs (graphIn c t) e else []
+
+abbrev pub placeInputs : GraphCounts → GraphWords → Stage → ℕ → List ℕ
+placeInputs c t s k =
+    if k <? length (s .handed) then inputsOf (2 * getD (s .handed) k 0 ∷ [])
+    else (if k - length (s .handed) <? length (s .taken) then endInputs c t (getD (s .taken) (k - length (s .handed)) 0) else [])
+
+unfoldable pub stageInputNumber : GraphCounts → GraphWords → Stage → ℕ → ℕ → ℕ
+stageInputNumber c t s k i =
+    orElse (refuse 1 (graphWithin c && (length (s .handed) ≤? maxList) && (length (s .taken) ≤? maxList)))
+    (orElse (refuse 2 (endsLong c t)) (refuse 15 (i <? length (placeInputs c t s k))))

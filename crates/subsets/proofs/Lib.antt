@@ -1,0 +1,3 @@
+pub mod Endpoints
+pub mod Full
+pub mod Places
