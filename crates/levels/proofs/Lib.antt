@@ -1,0 +1,4 @@
+pub mod Stops
+pub mod Gathers
+pub mod Raises
+pub mod Ranked

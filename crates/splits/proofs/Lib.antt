@@ -1,0 +1,4 @@
+pub mod Gathering
+pub mod Works
+pub mod Cuts
+pub mod Ends
