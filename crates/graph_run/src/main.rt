@@ -4,6 +4,7 @@ use fanouts::fanouts;
 use graphs::check_graph;
 use inputs::endpoint_input;
 use inputs::staged_input;
+use prints::print_words;
 use rules::Done;
 use rules::Endpoint;
 use rules::Found;
@@ -48,30 +49,6 @@ const M1: [u32; 12] = [0, 0, 0, 2, 0, 0, 2, 1, 0, 1, 3, 5];
 
 // A clock flag, a port, a flip-flop and two read-data pins of a RAM.
 const FLOP: [u32; 18] = [0, 0, 0, 3, 0, 0, 2, 1, 0, 4, 1, 0, 5, 2, 0, 5, 2, 0];
-
-fn wide(w: u32) -> u64 {
-    w as u64
-}
-
-fn print_word(w: u32) {
-    io::write_all(1, b" ");
-    io::print_decimal(1, wide(w));
-}
-
-fn print_each(ws: &[u32]) {
-    let mut i = 0;
-    while i < ws.len() {
-        print_word(ws[i]);
-        i += 1;
-    }
-}
-
-// A line: a label, and words behind it.
-fn print_words(label: &[u8], ws: &[u32]) {
-    io::write_all(1, label);
-    print_each(ws);
-    io::write_all(1, b"\n");
-}
 
 fn number(d: Done) -> u32 {
     match d {

@@ -2,11 +2,11 @@ use lib.ListN.{length}
 use Prim.Native.Nat.{_≤_, _-_}
 use native.Mathlib.Omega.{arith}
 use borrow.Author.Needs.{needs}
-use Rattle.graph_run.proofs.print_each.Statement.{statement}
-use Rattle.graph_run.proofs.print_each.Tie as tie
-use Rattle.graph_run.proofs.print_each.Reads as reads
-use Rattle.graph_run.proofs.print_each.Lts as lts
-use Rattle.graph_run.proofs.print_word.Reads as print-word-reads
+use Rattle.prints.proofs.print_each.Statement.{statement}
+use Rattle.prints.proofs.print_each.Tie as tie
+use Rattle.prints.proofs.print_each.Reads as reads
+use Rattle.prints.proofs.print_each.Lts as lts
+use Rattle.prints.proofs.print_word.Reads as print-word-reads
 
 abbrev Inv-loop : tie.InvT-loop
 Inv-loop ws i₀ i = i ≤ length ws
