@@ -11,7 +11,7 @@ use Rattle.laws.proofs.Bags.{at-head, here, there}
 use Rattle.laws.proofs.Events.{ins}
 use Rattle.laws.proofs.Indices.{at-in, index-of}
 use Rattle.roles.specs.Reading.{tables, Fits}
-use Rattle.orders.specs.State.{goesTo, eventsOf, Looked, Going, Kept, Turned, Step}
+use Rattle.orders.specs.State.{goesTo, eventsOf, Looked, Going, Kept, PinLeft, PinEntered, Turned, Step}
 use Rattle.orders.specs.State.Looked.{leaves, enters, loops}
 use Rattle.orders.specs.State.Step.{goes, meets}
 use Rattle.orders.proofs.Looking.{goes-closed}
@@ -54,6 +54,12 @@ module _ (kinds starts list pins nets w : List ℕ) (h k : ℕ) (f : Fits (table
   pub marks-long : length list ≤ length w
   marks-long = omega (arith, g .long)
 
+  pub few : length list ≤ 1048576
+  few = g .small
+
+  pub last-inside : 2 * length list + k < length w
+  last-inside = omega (arith, g .long, g .room, g .most, pos)
+
   module _ (tag pin : ℕ) where
     entering : (j : ℕ) → j < length (nx t) → pin ≡ getD (nx t) j 0 → getD w pin 0 ≡ 0 → (0 < count pin (nx t)) × (pin < m) × (ins pin (eventsOf w (2 * m) k) ≡ 0)
     entering j l e z =
@@ -69,7 +75,7 @@ module _ (kinds starts list pins nets w : List ℕ) (h k : ℕ) (f : Fits (table
         let i : 0 < count pin (nx t) = rw ep (at-in (nx t) j l) in
         meets refl pin (closed t pin top-inside i) (loop-met nx m w h k g pos closed pin i em) (record { rest = λ j b. refl })
 
-    pub step-leaves : Looked (goesTo (tables kinds starts list pins nets) (getD w (length list + h - 1) 0)) w tag pin → tag ≡ 0
+    step-leaves : Looked (goesTo (tables kinds starts list pins nets) (getD w (length list + h - 1) 0)) w tag pin → tag ≡ 0
         → Step (goesTo (tables kinds starts list pins nets)) (length list) w h k
         (set (set w (getD w (length list + h - 1) 0) 2) (2 * length list + k) (2 * getD w (length list + h - 1) 0 + 1)) (h - 1) (k + 1) false
     step-leaves (enters j e a b c d) z = absurd (omega (arith, e, z))
@@ -87,7 +93,7 @@ module _ (kinds starts list pins nets w : List ℕ) (h k : ℕ) (f : Fits (table
     room-left (loops j e l ep em) y z = absurd (y e)
     room-left (enters j e l ep em a) y z = let x = entering j l ep em in omega (arith, below nx m w h k g pin (x .1) (x .2), g .low)
 
-    pub step-enters : Looked (goesTo (tables kinds starts list pins nets) (getD w (length list + h - 1) 0)) w tag pin → (tag ≡ 2 → ⊥) → (tag ≡ 0 → ⊥)
+    step-enters : Looked (goesTo (tables kinds starts list pins nets) (getD w (length list + h - 1) 0)) w tag pin → (tag ≡ 2 → ⊥) → (tag ≡ 0 → ⊥)
         → Step (goesTo (tables kinds starts list pins nets)) (length list) w h k
         (set (set (set w pin 1) (length list + h) pin) (2 * length list + k) (2 * pin)) (h + 1) (k + 1) false
     step-enters (leaves e a) y z = absurd (z e)
@@ -99,3 +105,13 @@ module _ (kinds starts list pins nets w : List ℕ) (h k : ℕ) (f : Fits (table
         (λ p c. let i = in-take (nx t) j p c in
         (subst (λ (q : ℕ). 0 < count q (nx t)) (i .3) (at-in (nx t) (i .0) (i .2)), same-there w (getD (nx t) (i .0) 0) p (i .3) (a (i .0) (i .1))))
         (x .0) em (x .1) (x .2))
+
+    -- the same by what the two functions that write say
+    module _ (w′ : List ℕ) (h′ k′ : ℕ) (b : Bool) where
+      pub step-left : Looked (goesTo (tables kinds starts list pins nets) (getD w (length list + h - 1) 0)) w tag pin → tag ≡ 0
+          → PinLeft (length list) (getD w (length list + h - 1) 0) h k w w′ h′ k′ b → Step (goesTo (tables kinds starts list pins nets)) (length list) w h k w′ h′ k′ b
+      step-left s z l = rw (l .words, l .lower, l .more, l .no-loop) (step-leaves s z)
+
+      pub step-entered : Looked (goesTo (tables kinds starts list pins nets) (getD w (length list + h - 1) 0)) w tag pin → (tag ≡ 2 → ⊥) → (tag ≡ 0 → ⊥)
+          → PinEntered (length list) pin h k w w′ h′ k′ b → Step (goesTo (tables kinds starts list pins nets)) (length list) w h k w′ h′ k′ b
+      step-entered s y z l = rw (l .words, l .higher, l .more, l .no-loop) (step-enters s y z)

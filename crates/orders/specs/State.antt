@@ -3,8 +3,8 @@
 use mathlib.Core.Path.{_≡_}
 use mathlib.Core.Bool.{Bool, true, false}
 use mathlib.Core.List.{List, [], _∷_, map}
-use Prim.Native.Nat.{ℕ, zero, suc, _+_, _*_, _/_, _%_, _<_, _≤_}
-use lib.ListN.{length, getD}
+use Prim.Native.Nat.{ℕ, zero, suc, _+_, _-_, _*_, _/_, _%_, _<_, _≤_}
+use lib.ListN.{length, getD, set}
 use Rattle.laws.specs.Tests.{if_then_else_, _==_}
 use Rattle.laws.specs.Lists.{over, upto}
 use Rattle.laws.specs.Words.{part, stackOf}
@@ -63,6 +63,19 @@ pub record Kept (m : ℕ) (w w′ : List ℕ) : Type 0 where
 -- what is written once the stack is done
 abbrev pub goal : (ℕ → List ℕ) → ℕ → List ℕ → ℕ → ℕ → List Event
 goal nx m w h k = resume nx m (stackOf w m h) (eventsOf w (2 * m) k)
+
+-- what leaving the pin p on the top of the stack writes, and entering the pin q
+pub record PinLeft (m p h k : ℕ) (w w′ : List ℕ) (h′ k′ : ℕ) (looped : Bool) : Type 0 where
+  pub words : w′ ≡ set (set w p 2) (2 * m + k) (2 * p + 1)
+  pub lower : h′ ≡ h - 1
+  pub more : k′ ≡ k + 1
+  pub no-loop : looped ≡ false
+
+pub record PinEntered (m q h k : ℕ) (w w′ : List ℕ) (h′ k′ : ℕ) (looped : Bool) : Type 0 where
+  pub words : w′ ≡ set (set (set w q 1) (m + h) q) (2 * m + k) (2 * q)
+  pub higher : h′ ≡ h + 1
+  pub more : k′ ≡ k + 1
+  pub no-loop : looped ≡ false
 
 -- what a turn leaves
 pub record Turned (nx : ℕ → List ℕ) (m : ℕ) (w : List ℕ) (h k : ℕ) (w′ : List ℕ) (h′ k′ : ℕ) : Type 0 where

@@ -6,7 +6,7 @@ ghost use Prim.Native.Nat.{ℕ, _+_, _*_, _<_, _≤_};
 ghost use lib.ListN.{length, getD};
 ghost use Rattle.roles.specs.Reading.{tables, Fits, entryOf};
 ghost use Rattle.roles.specs.declared.Entry.the-variants.{Pin};
-ghost use Rattle.orders.specs.State.{goesTo, probeOf, Looked, Going, Step, Finished, Visited, Fresh, Ordered};
+ghost use Rattle.orders.specs.State.{goesTo, probeOf, Looked, Going, PinLeft, PinEntered, Step, Finished, Visited, Fresh, Ordered};
 use roles::Entry;
 use roles::visit_at;
 
@@ -90,6 +90,50 @@ fn look(
     Seen { tag: tag, pin: pin }
 }
 
+// The pin p on the top of the stack is left and taken off.
+fn leave_pin(work: &mut [u32], m: usize, p: u32, h: usize, k: usize) -> Place
+    requires { ⌜ p < m ⌝ }
+    requires { ⌜ m ≤ 1048576 ⌝ }
+    requires { ⌜ 0 < h ⌝ }
+    requires { ⌜ 2 * m + k < length (now work) ⌝ }
+    ensures { λ r. ⌜ PinLeft m p h k (now (work .entry)) (now (work .exit)) (r .height) (r .count) (r .looped) ⌝ }
+{
+    let last = 2 * m + k;
+    let more = k + 1;
+    let lower = h - 1;
+    let left = 2 * p + 1;
+    work[p as usize] = 2;
+    work[last] = left;
+    Place {
+        height: lower,
+        count: more,
+        looped: false,
+    }
+}
+
+// The pin q is entered and goes on the stack.
+fn enter_pin(work: &mut [u32], m: usize, q: u32, h: usize, k: usize) -> Place
+    requires { ⌜ q < m ⌝ }
+    requires { ⌜ m ≤ 1048576 ⌝ }
+    requires { ⌜ h < m ⌝ }
+    requires { ⌜ 2 * m + k < length (now work) ⌝ }
+    ensures { λ r. ⌜ PinEntered m q h k (now (work .entry)) (now (work .exit)) (r .height) (r .count) (r .looped) ⌝ }
+{
+    let last = 2 * m + k;
+    let more = k + 1;
+    let higher = h + 1;
+    let above = m + h;
+    let entered = 2 * q;
+    work[q as usize] = 1;
+    work[above] = q;
+    work[last] = entered;
+    Place {
+        height: higher,
+        count: more,
+        looped: false,
+    }
+}
+
 // One turn: the top's first visit that was not entered goes on the stack, a loop where it is there already; where all were
 // left, the top is left and taken off.
 fn turn(
@@ -118,31 +162,10 @@ fn turn(
             looped: true,
         };
     }
-    let last = 2 * m + k;
-    let more = k + 1;
     if at.tag == 0 {
-        let lower = h - 1;
-        let left = 2 * p + 1;
-        work[p as usize] = 2;
-        work[last] = left;
-        return Place {
-            height: lower,
-            count: more,
-            looped: false,
-        };
+        return leave_pin(work, m, p, h, k);
     }
-    let q = at.pin;
-    let higher = h + 1;
-    let above = m + h;
-    let entered = 2 * q;
-    work[q as usize] = 1;
-    work[above] = q;
-    work[last] = entered;
-    Place {
-        height: higher,
-        count: more,
-        looped: false,
-    }
+    enter_pin(work, m, at.pin, h, k)
 }
 
 // The turns until the stack is empty, or a loop is met.

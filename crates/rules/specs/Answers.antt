@@ -33,7 +33,7 @@ use Rattle.rules.specs.Build.{graphOf, literalsOf, fanouts, fanoutStarts
 use Rattle.rules.specs.Stages.{endpointCount, endpointBy, endpointOf, inputs, inputsOf, readsOf, traversal, split, stages, Stage, Row, fullStage, stageEndpoint, subset}
 use Rattle.rules.specs.Bounds.{maxGraphPins, maxFanouts, maxList, maxLevel, maxSplits, maxStages, buildWork, stageWork, netlistWithin, graphWithin, roomsWithin}
 use Rattle.rules.specs.Tables.{driverWords, recordWords, ramWords, GraphWords, driversIn, graphIn, rowWords, allHanded, allTaken, held}
-use Rattle.rules.specs.Refusals.{netlistNumber, roomFits, driversFit, recordsFit, rising, somethingRead, below, noRepeat, handedFirst}
+use Rattle.rules.specs.Refusals.{checkNumber, netlistNumber, roomFits, driversFit, recordsFit, rising, somethingRead, below, noRepeat, handedFirst}
 use Rattle.rules.specs.Work.{bit}
 
 -- ---- the answers: document 01's number and the values of each case
@@ -244,3 +244,16 @@ unfoldable pub stageInputNumber : GraphCounts → GraphWords → Stage → ℕ �
 stageInputNumber c t s k i =
     orElse (refuse 1 (graphWithin c && (length (s .handed) ≤? maxList) && (length (s .taken) ≤? maxList)))
     (orElse (refuse 2 (endsLong c t)) (refuse 15 (i <? length (placeInputs c t s k))))
+
+-- ---- calls on a netlist that build nothing: counts, tables, and 8 work words a pin with 1,024 more
+abbrev pub netlistAsked : NetlistCounts → Netlist → ℕ → ℕ → ℕ
+netlistAsked c n work number =
+    orElse (refuse 1 (netlistWithin c)) (orElse (refuse 2 (netlistLong c n && (8 * c .pins + 1024 ≤? work))) number)
+
+-- tests 1 to 9: the tables, loops, then the clock walks in step 1 order
+unfoldable pub checkNetlistNumber : NetlistCounts → Netlist → ℕ → ℕ
+checkNetlistNumber c n work = netlistAsked c n work (checkNumber n)
+
+-- tests 1 to 10
+unfoldable pub checkAllNumber : NetlistCounts → Netlist → ℕ → ℕ
+checkAllNumber c n work = netlistAsked c n work (netlistNumber n)
