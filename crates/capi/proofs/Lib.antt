@@ -1,0 +1,4 @@
+pub mod Told
+pub mod ToldEnds
+pub mod ToldGraph
+pub mod ToldStage
