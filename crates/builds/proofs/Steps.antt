@@ -6,7 +6,7 @@ use mathlib.Core.List.{List, [], _∷_}
 use Prim.Native.Nat.{ℕ, zero, suc, _<_}
 use native.Mathlib.Omega.{arith}
 use Rattle.laws.specs.Lists.{count, over, upto}
-use Rattle.laws.specs.Search.{explore}
+use Rattle.laws.specs.Search.{Event, explore}
 use Rattle.laws.proofs.Folds.{walk-inv}
 use Rattle.laws.proofs.Ranges.{upto-in, in-upto}
 use Rattle.laws.proofs.Events.{ins, outs, inAfter, outAfter, count-in, count-out, Proper, only-ins, proper-within, all-found, proper-fold}
@@ -134,14 +134,22 @@ module _ (n : Netlist) (acc : Accepted n) where
   abbrev Good : List ℕ → List ℕ → Build → Type 0
   Good ent lft s = Behind n ent lft s × ((env : Env) (v β : ℕ → Bool) → Obeys n env v → Right n env v β lft s)
 
-  good : Good allIn allOut (over (act n) (start2 (step1 n)) (events n))
-  good = proper-fold (next n) (act n) Good (λ p. p < size n)
+  good-after : (es : List Event) → Proper (next n) [] [] es → ((p : ℕ) → 0 < ins p es → p < size n) → Good (inAfter [] es) (outAfter [] es) (over (act n) (start2 (step1 n)) es)
+  good-after es proper within = proper-fold (next n) (act n) Good (λ p. p < size n)
       (λ ent lft s u h z g. (enter-behind ent lft s u (role n u) refl z h (g .0), λ env v β ob. enter-right env v β lft s (role n u) (g .1 env v β ob)))
       (λ ent lft s u h was z done g. (
         leave-behind n acc ent lft s u (g .0) z h was done (role n u) refl,
         λ env v β ob. leave-right n acc ent lft s u (g .0) z h was done env v β ob (role n u) refl (g .1 env v β ob),
       ))
-      (events n) [] [] (start2 (step1 n)) (visited .0) (λ p m. inside p (omega arith)) (start-behind n, λ env v β ob ag rd o ho m. absurd (omega arith))
+      es [] [] (start2 (step1 n)) proper (λ p m. within p (omega arith)) (start-behind n, λ env v β ob ag rd o ho m. absurd (omega arith))
+
+  good : Good allIn allOut (over (act n) (start2 (step1 n)) (events n))
+  good = good-after (events n) (visited .0) inside
+
+  -- what the first events build
+  pub behind-after : (es : List Event) → Proper (next n) [] [] es → ((p : ℕ) → 0 < ins p es → p < size n)
+      → Behind n (inAfter [] es) (outAfter [] es) (over (act n) (start2 (step1 n)) es)
+  behind-after es proper within = good-after es proper within .0
 
   -- what steps 1 and 2 build
   pub step2-behind : Behind n allIn allOut (step2 n)

@@ -11,7 +11,7 @@ use crate::trace_clock_pin;
 use roles::pin_word;
 
 // Whether a pin of this name is a clock of a cell of this kind: CLK, PORT_R_CLK, PORT_W_CLK.
-fn is_clock(kind: u32, name: u32) -> bool
+pub fn is_clock(kind: u32, name: u32) -> bool
     ensures { λ r. ⌜ r ≡ isClock (kindAt kind) name ⌝ }
 {
     if kind == 8 {

@@ -62,7 +62,8 @@ pub fn driver_at(drivers: &[u32], pin: usize) -> Decoded
     decode_words(drivers[at], drivers[at + 1], drivers[at + 2])
 }
 
-fn edge_word(e: Edge) -> u32
+// An edge as a word.
+pub fn edge_word(e: Edge) -> u32
     ensures { λ r. ⌜ r ≡ edgeWord e ⌝ }
 {
     match e {

@@ -19,7 +19,7 @@ pub record Searching (ws : List ℕ) (pins lo hi p : ℕ) : Type 0 where
 pub search-begins : (ws : List ℕ) (pins lo hi : ℕ) → Searching ws pins lo hi 0
 search-begins ws pins lo hi = record { below = omega arith; passed = omega arith }
 
-module _ (index ws : List ℕ) (pins lo hi p : ℕ) (ready : Ready index ws pins) (s : Searching ws pins lo hi p) where
+module _ (at : ℕ) (w ws : List ℕ) (pins lo hi p : ℕ) (ready : Ready at w ws pins) (s : Searching ws pins lo hi p) where
   inside : p ≤ pins → p < length (driversIn ws pins)
   inside l = omega (arith, l, drivers-long ws pins)
 

@@ -1,4 +1,5 @@
-// The AND step: the gate of two literals, an old one if the pair is known, else a new pin.
+// The AND step: the gate of two literals, an old one if the pair is known, else a new pin. How a known pair is found is
+// behind `Ready`: the index may use the work words from a place on, twice as many as the driver table has.
 ghost use mathlib.Core.Path.{_≡_};
 ghost use Prim.Native.Nat.{ℕ, _+_, _*_, _<_, _≤_};
 ghost use lib.ListN.{length};
@@ -31,8 +32,8 @@ fn is_pair(drivers: &[u32], p: usize, lo: u32, hi: u32) -> bool
 }
 
 // The pin of the gate of (lo, hi), or the next new pin where there is none.
-fn find_pair(drivers: &[u32], index: &[u32], pins: u32, lo: u32, hi: u32) -> u32
-    requires { ⌜ Ready (now index) (now drivers) pins ⌝ }
+fn find_pair(drivers: &[u32], work: &[u32], at: usize, pins: u32, lo: u32, hi: u32) -> u32
+    requires { ⌜ Ready at (now work) (now drivers) pins ⌝ }
     ensures { λ r. ⌜ r ≡ firstPin (isPair lo hi) (driversIn (now (drivers .entry)) pins) ⌝ }
 {
     let mut p: u32 = 0;
@@ -46,36 +47,46 @@ fn find_pair(drivers: &[u32], index: &[u32], pins: u32, lo: u32, hi: u32) -> u32
 }
 
 // The gate of an ordered pair.
-fn pair_gate(drivers: &mut [u32], index: &mut [u32], pins: u32, lo: u32, hi: u32) -> AndMade
-    requires { ⌜ Ready (now index) (now drivers) pins ⌝ }
-    ensures { λ r. ⌜ Paired (now (index .entry)) (now (drivers .entry)) pins lo hi (now (index .exit)) (now (drivers .exit)) r ⌝ }
+fn pair_gate(
+    drivers: &mut [u32],
+    work: &mut [u32],
+    at: usize,
+    pins: u32,
+    lo: u32,
+    hi: u32,
+) -> AndMade
+    requires { ⌜ Ready at (now work) (now drivers) pins ⌝ }
+    ensures { λ r. ⌜ Paired at (now (work .entry)) (now (drivers .entry)) pins lo hi (now (work .exit)) (now (drivers .exit)) r ⌝ }
 {
-    let p = find_pair(drivers, index, pins, lo, hi);
+    let p = find_pair(drivers, work, at, pins, lo, hi);
     if p <= pins {
-        return AndMade::Got(Literal { word: 2 * p }, pins);
+        let old = 2 * p;
+        return AndMade::Got(Literal { word: old }, pins);
     }
-    let at = p as usize;
-    if drivers.len() < 3 * at + 3 {
+    let row = p as usize;
+    if drivers.len() < 3 * row + 3 {
         return AndMade::NoRoom;
     }
     put_driver(
         drivers,
-        at,
+        row,
         Driver::And(Literal { word: lo }, Literal { word: hi }),
     );
-    AndMade::Got(Literal { word: 2 * p }, p)
+    let new = 2 * p;
+    AndMade::Got(Literal { word: new }, p)
 }
 
 // The AND of two literals: a 0 gives 0, else a 1 gives the other literal, else the gate of the ordered pair.
 pub fn add_and_gate(
     drivers: &mut [u32],
-    index: &mut [u32],
+    work: &mut [u32],
+    at: usize,
     pins: u32,
     a: Literal,
     b: Literal,
 ) -> AndMade
-    requires { ⌜ Ready (now index) (now drivers) pins ⌝ }
-    ensures { λ r. ⌜ Stepped (now (index .entry)) (now (drivers .entry)) pins (a .word) (b .word) (now (index .exit)) (now (drivers .exit)) r ⌝ }
+    requires { ⌜ Ready at (now work) (now drivers) pins ⌝ }
+    ensures { λ r. ⌜ Stepped at (now (work .entry)) (now (drivers .entry)) pins (a .word) (b .word) (now (work .exit)) (now (drivers .exit)) r ⌝ }
 {
     let x = a.word;
     let y = b.word;
@@ -92,8 +103,8 @@ pub fn add_and_gate(
         return AndMade::Got(a, pins);
     }
     if y < x {
-        pair_gate(drivers, index, pins, y, x)
+        pair_gate(drivers, work, at, pins, y, x)
     } else {
-        pair_gate(drivers, index, pins, x, y)
+        pair_gate(drivers, work, at, pins, x, y)
     }
 }

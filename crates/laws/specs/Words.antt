@@ -28,6 +28,11 @@ AllBelow m l = (j : ℕ) → j < length l → getD l j 0 < m
 unfoldable pub ZeroFrom : List ℕ → ℕ → Type 0
 ZeroFrom w a = (j : ℕ) → a ≤ j → getD w j 0 ≡ 0
 
+-- the same words below a, in a table as long
+pub record SameBelow (a : ℕ) (w w′ : List ℕ) : Type 0 where
+  pub long : length w′ ≡ length w
+  pub same : (j : ℕ) → j < a → getD w′ j 0 ≡ getD w j 0
+
 -- a table of a room's length in which nothing is used
 abbrev pub zeros : ℕ → List ℕ
 zeros room = replicate room 0

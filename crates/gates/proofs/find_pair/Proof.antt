@@ -8,10 +8,10 @@ use Rattle.gates.proofs.find_pair.Lts as lts
 use Rattle.gates.proofs.is_pair.Reads as is-pair-reads
 
 abbrev Inv-loop : tie.InvT-loop
-Inv-loop drivers index pins lo hi p₀ p = Searching drivers pins lo hi p
+Inv-loop drivers work at pins lo hi p₀ p = Searching drivers pins lo hi p
 
 abbrev μ-loop : tie.MeasureT-loop
-μ-loop drivers index pins lo hi p₀ p = pins + 1 - p
+μ-loop drivers work at pins lo hi p₀ p = pins + 1 - p
 
 -- src/lib.rt:39:5
 loop-holds : tie.Need-loop-holds Inv-loop μ-loop

@@ -7,67 +7,67 @@ use Rattle.gates.proofs.pair_gate.Lts as lts
 use Rattle.drivers.proofs.put_driver.Reads as put-driver-reads
 use Rattle.gates.proofs.find_pair.Reads as find-pair-reads
 
--- src/lib.rt:53:9
+-- src/lib.rt:61:9
 find-pair-requires : tie.Need-find-pair-requires
 find-pair-requires c κs = search needs
 
--- src/lib.rt:55:45
-mul-t13 : tie.Need-mul-t13
-mul-t13 c = search needs
+-- src/lib.rt:63:19
+mul-old : tie.Need-mul-old
+mul-old c = search needs
 
--- src/lib.rt:55:9
+-- src/lib.rt:64:9
 same-length : tie.Need-same-length
 same-length c = search needs
 
--- src/lib.rt:55:9
+-- src/lib.rt:64:9
 same-length-2 : tie.Need-same-length-2
 same-length-2 c = search needs
 
--- src/lib.rt:55:9
+-- src/lib.rt:64:9
 returns : tie.Need-returns
 returns c = search pair-old
 
--- src/lib.rt:57:14
-cast-at : tie.Need-cast-at
-cast-at c = search needs
+-- src/lib.rt:66:15
+cast-row : tie.Need-cast-row
+cast-row c = search needs
 
--- src/lib.rt:58:24
+-- src/lib.rt:67:24
 mul-if2 : tie.Need-mul-if2
 mul-if2 c = search needs
 
--- src/lib.rt:58:24
+-- src/lib.rt:67:24
 add-if2 : tie.Need-add-if2
 add-if2 c = search needs
 
--- src/lib.rt:59:9
+-- src/lib.rt:68:9
 same-length-3 : tie.Need-same-length-3
 same-length-3 c = search needs
 
--- src/lib.rt:59:9
+-- src/lib.rt:68:9
 same-length-4 : tie.Need-same-length-4
 same-length-4 c = search needs
 
--- src/lib.rt:59:9
+-- src/lib.rt:68:9
 returns-2 : tie.Need-returns-2
 returns-2 c = search pair-full
 
--- src/lib.rt:61:5
+-- src/lib.rt:70:5
 put-driver-requires : tie.Need-put-driver-requires
 put-driver-requires c κs = search needs
 
--- src/lib.rt:66:34
-mul-t24 : tie.Need-mul-t24
-mul-t24 c = search needs
+-- src/lib.rt:75:15
+mul-new : tie.Need-mul-new
+mul-new c = search needs
 
--- src/lib.rt:49:1
+-- src/lib.rt:50:1
 same-length-5 : tie.Need-same-length-5
 same-length-5 c = search needs
 
--- src/lib.rt:49:1
+-- src/lib.rt:50:1
 same-length-6 : tie.Need-same-length-6
 same-length-6 c = search needs
 
--- src/lib.rt:49:1
+-- src/lib.rt:50:1
 returns-3 : tie.Need-returns-3
 returns-3 c = search pair-new
 
@@ -76,18 +76,18 @@ pair-gate-spec =
     tie.close
     (tie.spec
     find-pair-requires
-    mul-t13
+    mul-old
     same-length
     same-length-2
     returns
-    cast-at
+    cast-row
     mul-if2
     add-if2
     same-length-3
     same-length-4
     returns-2
     put-driver-requires
-    mul-t24
+    mul-new
     same-length-5
     same-length-6
     returns-3)

@@ -1,0 +1,4 @@
+pub mod Words
+pub mod Making
+pub mod Roots
+pub mod Passing
