@@ -3,4 +3,5 @@ pub mod Counts
 pub mod Sums
 pub mod Places
 pub mod Ties
+pub mod Passes
 pub mod Answers

@@ -22,6 +22,7 @@ placed-same E m R Q s l e g = record {
   room = g .room;
   starts = λ p h. ap (λ (x : List ℕ). getD s p 0 + length x) (sym (e p h)) ∙ g .starts p h;
   last = g .last;
+  past = g .past;
   lists = λ p j h k. g .lists p j h (subst (λ (x : List ℕ). j < length x) (sym (e p h)) k) ∙ ap (λ (x : List ℕ). getD x j 0) (e p h);
   rest = g .rest;
 }
@@ -91,10 +92,11 @@ module _ (E : ℕ → ℕ) (m : ℕ) (R : ℕ → List ℕ) (s l : List ℕ) (ri
 
   pub placed-more : Placed E m R′ s′ l′
   placed-more = record {
-    long = length-set s o at ∙ g .long;
+    long = rw (length-set s o at) (g .long);
     room = rw (length-set l at u) (g .room);
     starts = starts-put;
     last = getD-set-other s o m at 0 (λ q. omega (arith, q, h)) ∙ g .last;
+    past = λ j k. getD-set-other s o j at 0 (λ q. omega (arith, q, k, h)) ∙ g .past j k;
     lists = lists-put;
     rest = λ j k. getD-set-other l at j u 0 (λ q. omega (arith, q, k, at-high, rise (suc o) m h)) ∙ g .rest j k;
   }

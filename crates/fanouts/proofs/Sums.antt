@@ -42,23 +42,23 @@ pub record Summing (w : List ℕ) (i sum : ℕ) (w′ : List ℕ) : Type 0 where
 pub sums-begin : (w : List ℕ) → Summing w 0 0 w
 sums-begin w = record { sum-is = sym (sum-zero w); long = refl; sums = λ j l. absurd (omega arith); rest = λ j l. refl }
 
-module _ (w : List ℕ) (i sum : ℕ) (w′ : List ℕ) (n : ℕ) (s : Summing w i sum w′) (l : i < length w′) (e : n ≡ getD w′ i 0) where
+module _ (w : List ℕ) (k i sum : ℕ) (w′ : List ℕ) (n : ℕ) (h : k ≤ length w) (s : Summing w i sum w′) (l : i < k) (e : n ≡ getD w′ i 0) where
   next-sum : sum + n ≡ sumTo w (suc i)
   next-sum = omega (arith, s .sum-is, e, s .rest i (omega arith), sum-suc w i)
 
-  pub sum-fits : sumTo w (length w) ≤ 4294967295 → sum + n ≤ 4294967295
-  sum-fits h = omega (arith, next-sum, s .long, sum-rises w (suc i) (length w) (omega (arith, s .long)))
+  pub sum-fits : sumTo w k ≤ 4294967295 → sum + n ≤ 4294967295
+  sum-fits q = omega (arith, next-sum, sum-rises w (suc i) k l)
 
   pub sums-go-on : Summing w (i + 1) (sum + n) (set w′ i (sum + n))
   sums-go-on = record {
     sum-is = next-sum ∙ ap (sumTo w) (sym (add-one i));
     long = length-set w′ i (sum + n) ∙ s .long;
-    sums = λ j h. byTest (j == i)
+    sums = λ j b. byTest (j == i)
         (λ t. let q = eqb-true j i t in
-        subst (λ (x : ℕ). getD (set w′ i (sum + n)) x 0 ≡ sumTo w (suc x)) (sym q) (getD-set-same w′ i (sum + n) 0 l ∙ next-sum))
+        subst (λ (x : ℕ). getD (set w′ i (sum + n)) x 0 ≡ sumTo w (suc x)) (sym q) (getD-set-same w′ i (sum + n) 0 (omega (arith, s .long)) ∙ next-sum))
         (λ f. getD-set-other w′ i j (sum + n) 0 (eqb-false j i f) ∙ s .sums j (omega (arith, eqb-false j i f)));
-    rest = λ j h. getD-set-other w′ i j (sum + n) 0 (omega arith) ∙ s .rest j (omega arith);
+    rest = λ j b. getD-set-other w′ i j (sum + n) 0 (omega arith) ∙ s .rest j (omega arith);
   }
 
-pub sums-end : (w : List ℕ) (i sum : ℕ) (w′ : List ℕ) → Summing w i sum w′ → length w′ ≤ i → Summed w w′
-sums-end w i sum w′ s h = record { long = s .long; sums = λ j l. s .sums j (omega (arith, s .long)) }
+pub sums-end : (w : List ℕ) (k i sum : ℕ) (w′ : List ℕ) → Summing w i sum w′ → i ≤ k → k ≤ i → Summed w k w′
+sums-end w k i sum w′ s a b = record { long = s .long; sums = λ j l. s .sums j (omega arith); rest = λ j l. s .rest j (omega arith) }

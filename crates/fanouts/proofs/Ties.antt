@@ -12,7 +12,7 @@ use Rattle.laws.specs.Words.{filled}
 use Rattle.laws.proofs.Tests.{byTest}
 use Rattle.laws.proofs.Bags.{flat-joined}
 use Rattle.laws.proofs.Ranges.{map-upto, length-map-upto}
-use Rattle.laws.proofs.Words.{filled-is, word-past}
+use Rattle.laws.proofs.Words.{filled-is}
 use Rattle.rules.specs.declared.Driver.{Driver}
 use Rattle.rules.specs.declared.Driver.the-variants.{And, Port, Flag, Dff, Ram, Constant}
 use Rattle.rules.specs.Graph.{operands, driverAt}
@@ -124,7 +124,7 @@ module _ (ws : List ℕ) (pins : ℕ) where
         let n = length-map-upto (λ p. length (fanoutsBelow ds p)) (length ds + 1) in
         let d = drivers-long in
         let q = P .long in
-        filled-is s (fanoutStarts ds) (omega (arith, n, d, q)) starts-at (λ j h. word-past s j (omega (arith, h, n, d, q)))
+        filled-is s (fanoutStarts ds) (omega (arith, n, d, q)) starts-at (λ j h. P .past j (omega (arith, h, n, d)))
 
     lists-at : (p j : ℕ) → p ≤ pins + 1 → j < length (fanoutsBelow ds p) → getD l j 0 ≡ getD (fanoutsBelow ds p) j 0
     lists-at zero j h k = absurd (omega arith)

@@ -7,7 +7,7 @@ ghost use Rattle.laws.specs.Lists.{over};
 ghost use Rattle.laws.specs.Words.{zeros};
 ghost use Rattle.laws.proofs.Words.{bump};
 ghost use Rattle.walk.specs.State.{Operands};
-ghost use Rattle.fanouts.specs.Fans.{FannedOut, operandsOf, readings, Countable, sumTo, Summed, fan, putBefore, Roomy, Placing};
+ghost use Rattle.fanouts.specs.Fans.{FannedOut, Fanned, operandsOf, readings, Countable, sumTo, Summed, fan, putBefore, Roomy, Placing};
 use rules::Done;
 use walk::fit::drivers_number;
 use words::word;
@@ -57,14 +57,15 @@ fn count_readers(drivers: &[u32], starts: &mut [u32], m: usize)
     }
 }
 
-// Each word and all before it: where the list of each pin ends.
-fn sum_up(starts: &mut [u32])
-    requires { ⌜ sumTo (now starts) (length (now starts)) ≤ 4294967295 ⌝ }
-    ensures { λ _. ⌜ Summed (now (starts .entry)) (now (starts .exit)) ⌝ }
+// Each of the first `long` words and all before it: where the list of each pin ends.
+fn sum_up(starts: &mut [u32], long: usize)
+    requires { ⌜ long ≤ length (now starts) ⌝ }
+    requires { ⌜ sumTo (now starts) long ≤ 4294967295 ⌝ }
+    ensures { λ _. ⌜ Summed (now (starts .entry)) long (now (starts .exit)) ⌝ }
 {
     let mut sum: u32 = 0;
     let mut i = 0;
-    while i < starts.len() {
+    while i < long {
         let n = word(starts, i);
         sum += n;
         starts[i] = sum;
@@ -121,6 +122,29 @@ fn put_readers(drivers: &[u32], starts: &mut [u32], lists: &mut [u32], m: usize)
     }
 }
 
+// The fanouts of the pins up to `pins` of a checked driver table, into tables that are 0 and may be longer; whether the lists have room.
+pub fn fan_out(drivers: &[u32], pins: u32, starts: &mut [u32], lists: &mut [u32]) -> bool
+    requires { ⌜ pins ≤ 16777215 ⌝ }
+    requires { ⌜ 3 * (pins + 1) ≤ length (now drivers) ⌝ }
+    requires { ⌜ Operands (now drivers) (pins + 1) ⌝ }
+    requires { ⌜ pins + 2 ≤ length (now starts) ⌝ }
+    requires { ⌜ now starts ≡ zeros (length (now starts)) ⌝ }
+    requires { ⌜ now lists ≡ zeros (length (now lists)) ⌝ }
+    ensures { λ r. ⌜ Fanned (now (drivers .entry)) pins (now (starts .entry)) (now (lists .entry)) (now (starts .exit)) (now (lists .exit)) r ⌝ }
+{
+    let m = (pins as usize) + 1;
+    let long = m + 1;
+    count_readers(drivers, starts, m);
+    sum_up(starts, long);
+    let total = word(starts, m);
+    if lists.len() < (total as usize) {
+        zero(starts);
+        return false;
+    }
+    put_readers(drivers, starts, lists, m);
+    true
+}
+
 // Each pin's gates, in falling order, and where each pin's list begins.
 pub fn fanouts(drivers: &[u32], pins: u32, starts: &mut [u32], lists: &mut [u32]) -> Done
     ensures { λ r. ⌜ FannedOut (now (drivers .entry)) pins (now (starts .entry)) (now (lists .entry)) (now (starts .exit)) (now (lists .exit)) r ⌝ }
@@ -133,14 +157,8 @@ pub fn fanouts(drivers: &[u32], pins: u32, starts: &mut [u32], lists: &mut [u32]
     if k != 0 {
         return Done::Refused(k);
     }
-    let m = n + 1;
-    count_readers(drivers, starts, m);
-    sum_up(starts);
-    let total = word(starts, m);
-    if lists.len() < (total as usize) {
-        zero(starts);
+    if !fan_out(drivers, pins, starts, lists) {
         return Done::Refused(11);
     }
-    put_readers(drivers, starts, lists, m);
     Done::Accepted
 }

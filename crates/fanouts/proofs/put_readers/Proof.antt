@@ -17,35 +17,35 @@ Inv-loop drivers starts₀ lists₀ m u₀ starts lists u = Placing drivers m st
 abbrev μ-loop : tie.MeasureT-loop
 μ-loop drivers starts₀ lists₀ m u₀ starts lists u = m - u
 
--- src/lib.rt:118:5
+-- src/lib.rt:119:5
 loop-holds : tie.Need-loop-holds Inv-loop μ-loop
 loop-holds c = (search, search needs, search needs, search needs)
 
--- src/lib.rt:119:9
+-- src/lib.rt:120:9
 put-gate-requires : tie.Need-put-gate-requires Inv-loop μ-loop
 put-gate-requires c κs = (omega arith, (omega arith, search roomy))
 
--- src/lib.rt:120:9
+-- src/lib.rt:121:9
 add-u : tie.Need-add-u Inv-loop μ-loop
 add-u c = omega arith
 
--- src/lib.rt:118:5
+-- src/lib.rt:119:5
 loop-less : tie.Need-loop-less Inv-loop μ-loop
 loop-less c = omega arith
 
--- src/lib.rt:118:5
+-- src/lib.rt:119:5
 loop-again : tie.Need-loop-again Inv-loop μ-loop
 loop-again c = (search places-go-on, omega arith, omega arith, omega arith)
 
--- src/lib.rt:110:1
+-- src/lib.rt:111:1
 same-length : tie.Need-same-length Inv-loop μ-loop
 same-length c = search
 
--- src/lib.rt:110:1
+-- src/lib.rt:111:1
 same-length-2 : tie.Need-same-length-2 Inv-loop μ-loop
 same-length-2 c = search
 
--- src/lib.rt:110:1
+-- src/lib.rt:111:1
 returns : tie.Need-returns Inv-loop μ-loop
 returns c = search places-end
 

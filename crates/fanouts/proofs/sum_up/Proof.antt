@@ -11,42 +11,42 @@ use Rattle.fanouts.proofs.sum_up.Lts as lts
 use Rattle.words.proofs.word.Reads as word-reads
 
 abbrev Inv-loop : tie.InvT-loop
-Inv-loop starts₀ sum₀ i₀ starts sum i = Summing starts₀ i sum starts × (i ≤ length starts) × (length starts ≡ length starts₀)
+Inv-loop starts₀ long sum₀ i₀ starts sum i = Summing starts₀ i sum starts × (i ≤ long) × (length starts ≡ length starts₀)
 
 abbrev μ-loop : tie.MeasureT-loop
-μ-loop starts₀ sum₀ i₀ starts sum i = length starts₀ - i
+μ-loop starts₀ long sum₀ i₀ starts sum i = long - i
 
--- src/lib.rt:67:5
+-- src/lib.rt:68:5
 loop-holds : tie.Need-loop-holds Inv-loop μ-loop
 loop-holds c = (search sums-begin, search needs, search needs)
 
--- src/lib.rt:68:13
+-- src/lib.rt:69:13
 word-requires : tie.Need-word-requires Inv-loop μ-loop
 word-requires c κs = omega arith
 
--- src/lib.rt:69:9
+-- src/lib.rt:70:9
 add-sum : tie.Need-add-sum Inv-loop μ-loop
 add-sum c = let h : c .before .before .before .loop .sum + c .word .result ≤ 4294967295 = search sum-fits in omega arith
 
--- src/lib.rt:70:9
+-- src/lib.rt:71:9
 mul-starts : tie.Need-mul-starts Inv-loop μ-loop
 mul-starts c = omega arith
 
--- src/lib.rt:70:9
+-- src/lib.rt:71:9
 slice-write-starts : tie.Need-slice-write-starts Inv-loop μ-loop
 slice-write-starts c = omega arith
 
--- src/lib.rt:71:9
+-- src/lib.rt:72:9
 add-i : tie.Need-add-i Inv-loop μ-loop
 add-i c = omega arith
 
--- src/lib.rt:67:5
+-- src/lib.rt:68:5
 loop-less : tie.Need-loop-less Inv-loop μ-loop
 loop-less c = omega arith
 
--- src/lib.rt:67:5
+-- src/lib.rt:68:5
 loop-again : tie.Need-loop-again Inv-loop μ-loop
-loop-again c = (search sums-go-on, simp length-set (omega arith), simp length-set (omega arith))
+loop-again c = (search sums-go-on, omega arith, simp length-set (omega arith))
 
 -- src/lib.rt:61:1
 same-length : tie.Need-same-length Inv-loop μ-loop

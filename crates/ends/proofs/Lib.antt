@@ -1,0 +1,4 @@
+pub mod Tabled
+pub mod Cells
+pub mod Finals
+pub mod Ending

@@ -1,0 +1,4 @@
+pub mod Drivers
+pub mod Fans
+pub mod Rooms
+pub mod Counts
