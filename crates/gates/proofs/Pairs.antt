@@ -1,20 +1,17 @@
--- A pair is searched for row by row.
-use mathlib.Core.Path.{_≡_, refl, sym, ap, ap₂, subst, _∙_}
-use mathlib.Core.Bool.{Bool, true, false, _&&_}
-use mathlib.Core.List.{List, [], _∷_, _++_}
-use Prim.Native.Nat.{ℕ, zero, suc, _+_, _-_, _*_, _≤_, _<_}
+-- The words of a row are a pair exactly where its driver is.
+use mathlib.Core.Path.{_≡_, sym, _∙_}
+use mathlib.Core.Bool.{Bool, false, _&&_}
+use mathlib.Core.List.{List, [], _∷_}
+use Prim.Native.Nat.{ℕ, _+_, _-_, _*_, _≤_, _<_}
 use native.Mathlib.Omega.{arith}
-use native.Mathlib.Numerals.{add-one}
-use lib.ListN.{length, getD, drop}
-use lib.Seq.{drop-cons, drop-length}
+use lib.ListN.{length, getD}
 use borrow.Author.Tests.{eq-eqb, ne-eqb, eqb-true, eqb-false}
 use Rattle.laws.specs.Tests.{_==_}
-use Rattle.laws.proofs.Tests.{byTest, true≢false}
+use Rattle.laws.proofs.Tests.{byTest}
 use Rattle.rules.specs.declared.Driver.{Driver}
 use Rattle.rules.specs.declared.Driver.the-variants.{And, Port, Flag, Dff, Ram, Constant}
-use Rattle.rules.specs.declared.Decoded.the-variants.{Is}
 use Rattle.rules.specs.Graph.{driverAt, firstPin, isPair}
-use Rattle.rules.specs.Tables.{decode, decodeAt}
+use Rattle.rules.specs.Tables.{decodeAt}
 use Rattle.drivers.specs.Written.{Holds}
 use Rattle.drivers.proofs.Said.{Words, said}
 use Rattle.gates.specs.Step.{isPairAt}
@@ -54,28 +51,6 @@ row-pair ws ds p lo hi h l =
     pair-words (getD ws (3 * p) 0) (getD ws (3 * p + 1) 0) (getD ws (3 * p + 2) 0) lo hi (driverAt ds p)
     (said (getD ws (3 * p) 0) (getD ws (3 * p + 1) 0) (getD ws (3 * p + 2) 0) (driverAt ds p) (h .row p l))
 
--- ---- the first pin that passes a test, one pin at a time
 pub first-le : (t : Driver → Bool) (ds : List Driver) → firstPin t ds ≤ length ds
 first-le t [] = omega arith
 first-le t (d ∷ ds) = byTest (t d) (λ y. rw y (omega arith)) (λ n. rw n (omega (arith, first-le t ds)))
-
-module _ (t : Driver → Bool) (ds : List Driver) where
-  -- none of the pins below p passes
-  abbrev pub Passed : ℕ → Type 0
-  Passed p = p + firstPin t (drop p ds) ≡ firstPin t ds
-
-  opened : (p : ℕ) → p < length ds → firstPin t (drop p ds) ≡ firstPin t (driverAt ds p ∷ drop (suc p) ds)
-  opened p l = ap (firstPin t) (drop-cons ds p Constant l)
-
-  pub hit : (p : ℕ) → Passed p → p < length ds → t (driverAt ds p) ≡ true → p ≡ firstPin t ds
-  hit p g l y = let z : firstPin t (drop p ds) ≡ 0 = opened p l ∙ rw y in omega (arith, g, z)
-
-  pub miss : (p : ℕ) → Passed p → p < length ds → t (driverAt ds p) ≡ false → Passed (p + 1)
-  miss p g l n =
-      let z : firstPin t (drop p ds) ≡ suc (firstPin t (drop (suc p) ds)) = opened p l ∙ rw n in
-      rw (add-one p) (omega (arith, g, z))
-
-  pub none : (p : ℕ) → Passed p → p ≡ length ds → p ≡ firstPin t ds
-  none p g e =
-      let z : firstPin t (drop p ds) ≡ 0 = ap (λ (k : ℕ). firstPin t (drop k ds)) e ∙ ap (firstPin t) (drop-length ds) in
-      omega (arith, g, z)

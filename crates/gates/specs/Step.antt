@@ -1,13 +1,14 @@
 -- The AND step over a driver table: what it needs, and what it leaves.
 use mathlib.Core.Path.{_≡_}
-use mathlib.Core.Bool.{Bool, _&&_}
+use mathlib.Core.Bool.{Bool, true, false, _&&_}
 use mathlib.Core.List.{List}
-use Prim.Native.Nat.{ℕ, _+_, _-_, _*_, _<_, _≤_, min, max}
-use lib.ListN.{length, getD}
-use Rattle.laws.specs.Tests.{_==_}
+use Prim.Native.Nat.{ℕ, zero, suc, _+_, _-_, _*_, _/_, _%_, _<_, _≤_, min, max}
+use lib.ListN.{length, getD, set}
+use Rattle.laws.specs.Tests.{if_then_else_, _==_}
 use Rattle.laws.specs.Words.{SameBelow}
 use Rattle.rules.specs.declared.Driver.{Driver}
-use Rattle.rules.specs.Graph.{literal, gate, isPair, Made, oldOrNew, andOf}
+use Rattle.rules.specs.declared.Driver.the-variants.{And, Port, Flag, Dff, Ram, Constant}
+use Rattle.rules.specs.Graph.{literal, gate, driverAt, isPair, Made, oldOrNew, andOf}
 use Rattle.rules.specs.Tables.{driversIn}
 use Rattle.rules.specs.Bounds.{maxGraphPins}
 use Rattle.drivers.specs.Written.{Holds}
@@ -18,6 +19,31 @@ use Rattle.gates.specs.declared.AndMade.the-variants.{Got, NoRoom}
 abbrev pub isPairAt : List ℕ → ℕ → ℕ → ℕ → Bool
 isPairAt ws p lo hi = (getD ws (3 * p) 0 == 1) && (getD ws (3 * p + 1) 0 == lo) && (getD ws (3 * p + 2) 0 == hi)
 
+-- ---- the index of known pairs
+-- the bucket of a pair, and whether a driver is a gate in a bucket
+unfoldable pub bucketOf : ℕ → ℕ → ℕ → ℕ
+bucketOf rows lo hi = (lo * 663608969 + hi * 374762369) % (2 * rows + 1)
+
+abbrev pub inBucket : ℕ → ℕ → Driver → Bool
+inBucket rows h (And a b) = bucketOf rows (a .word) (b .word) == h
+inBucket rows h (Port q) = false
+inBucket rows h (Flag q e) = false
+inBucket rows h (Dff c) = false
+inBucket rows h (Ram c) = false
+inBucket rows h Constant = false
+
+-- the highest gate below k in a bucket, 0 where there is none
+abbrev pub topBelow : List Driver → ℕ → ℕ → ℕ → ℕ
+topBelow ds rows zero h = 0
+topBelow ds rows (suc k) h = if inBucket rows h (driverAt ds k) then k else topBelow ds rows k h
+
+abbrev pub rowsOf : List ℕ → ℕ
+rowsOf ws = length ws / 3
+
+-- gate p linked to what was the head of bucket h, and now its head
+unfoldable pub chained : List ℕ → ℕ → ℕ → ℕ → ℕ → List ℕ
+chained w at rows p h = set (set w (at + p) (getD w (at + rows + h) 0)) (at + rows + h) p
+
 -- the table holds the drivers of `pins` pins, and the work words from `at` on say where their pairs are. Callers carry it and cite its laws
 -- alone
 pub record Ready (at : ℕ) (w ws : List ℕ) (pins : ℕ) : Type 0 where
@@ -25,6 +51,10 @@ pub record Ready (at : ℕ) (w ws : List ℕ) (pins : ℕ) : Type 0 where
   pub long : 3 * pins + 3 ≤ length ws
   pub bounded : length ws ≤ 3 * (maxGraphPins + 1)
   pub wide : at + 2 * length ws ≤ length w
+  pub first : driverAt (driversIn ws pins) 0 ≡ Constant
+  pub once : (u v lo hi : ℕ) → isPair lo hi (driverAt (driversIn ws pins) u) ≡ true → isPair lo hi (driverAt (driversIn ws pins) v) ≡ true → u ≡ v
+  pub heads : (h : ℕ) → h < 2 * rowsOf ws + 1 → getD w (at + rowsOf ws + h) 0 ≡ topBelow (driversIn ws pins) (rowsOf ws) (pins + 1) h
+  pub links : (g h : ℕ) → g ≤ pins → inBucket (rowsOf ws) h (driverAt (driversIn ws pins) g) ≡ true → getD w (at + g) 0 ≡ topBelow (driversIn ws pins) (rowsOf ws) g h
 
 -- what a step leaves, by what the rules make of the drivers: all of it, or where there is no room for it nothing
 pub record Grown (at : ℕ) (m : Made) (w ws w′ ws′ : List ℕ) (r : AndMade) : Type 0 where

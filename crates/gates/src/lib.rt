@@ -1,11 +1,12 @@
 // The AND step: the gate of two literals, an old one if the pair is known, else a new pin. How a known pair is found is
-// behind `Ready`: the index may use the work words from a place on, twice as many as the driver table has.
+// behind `Ready`: in the work words from a place on lie one link a pin, to the next lower gate of its bucket, and behind
+// them the heads of the buckets, each the highest gate in it.
 ghost use mathlib.Core.Path.{_≡_};
-ghost use Prim.Native.Nat.{ℕ, _+_, _*_, _<_, _≤_};
+ghost use Prim.Native.Nat.{ℕ, _+_, _*_, _/_, _<_, _≤_};
 ghost use lib.ListN.{length};
 ghost use Rattle.rules.specs.Graph.{firstPin, isPair};
 ghost use Rattle.rules.specs.Tables.{driversIn};
-ghost use Rattle.gates.specs.Step.{isPairAt, Ready, Paired, Stepped};
+ghost use Rattle.gates.specs.Step.{isPairAt, bucketOf, chained, Ready, Paired, Stepped};
 use drivers::put_driver;
 use rules::Driver;
 use rules::Literal;
@@ -31,19 +32,51 @@ fn is_pair(drivers: &[u32], p: usize, lo: u32, hi: u32) -> bool
     drivers[at + 2] == hi
 }
 
-// The pin of the gate of (lo, hi), or the next new pin where there is none.
+// The bucket of a pair. Buckets are an odd number, and both factors and half their sum are primes larger than it, so that
+// pairs in a row, pairs with one operand in common and pairs a fixed way apart are spread evenly.
+fn bucket_of(rows: usize, lo: u32, hi: u32) -> usize
+    requires { ⌜ rows ≤ 16777216 ⌝ }
+    ensures { λ r. ⌜ r ≡ bucketOf rows lo hi ⌝ }
+    ensures { λ r. ⌜ r < 2 * rows + 1 ⌝ }
+{
+    let first = (lo as usize) * 663608969;
+    let second = (hi as usize) * 374762369;
+    let mixed = first + second;
+    let buckets = 2 * rows + 1;
+    mixed % buckets
+}
+
+// The pin of the gate of (lo, hi), or the next new pin where there is none: down the chain of its bucket.
 fn find_pair(drivers: &[u32], work: &[u32], at: usize, pins: u32, lo: u32, hi: u32) -> u32
     requires { ⌜ Ready at (now work) (now drivers) pins ⌝ }
     ensures { λ r. ⌜ r ≡ firstPin (isPair lo hi) (driversIn (now (drivers .entry)) pins) ⌝ }
 {
-    let mut p: u32 = 0;
-    while p <= pins {
+    let rows = drivers.len() / 3;
+    let bucket = bucket_of(rows, lo, hi);
+    let head = at + rows + bucket;
+    let mut p = work[head];
+    while p != 0 {
         if is_pair(drivers, p as usize, lo, hi) {
             return p;
         }
-        p += 1;
+        p = work[at + p as usize];
     }
-    p
+    pins + 1
+}
+
+// A new gate becomes the head of its bucket's chain.
+fn chain_gate(work: &mut [u32], at: usize, rows: usize, p: u32, lo: u32, hi: u32)
+    requires { ⌜ rows ≤ 16777216 ⌝ }
+    requires { ⌜ p < rows ⌝ }
+    requires { ⌜ at + 3 * rows + 1 ≤ length (now work) ⌝ }
+    ensures { λ _. ⌜ now (work .exit) ≡ chained (now (work .entry)) at rows p (bucketOf rows lo hi) ⌝ }
+{
+    let bucket = bucket_of(rows, lo, hi);
+    let head = at + rows + bucket;
+    let link = at + p as usize;
+    let top = work[head];
+    work[link] = top;
+    work[head] = p;
 }
 
 // The gate of an ordered pair.
@@ -72,6 +105,8 @@ fn pair_gate(
         row,
         Driver::And(Literal { word: lo }, Literal { word: hi }),
     );
+    let rows = drivers.len() / 3;
+    chain_gate(work, at, rows, p, lo, hi);
     let new = 2 * p;
     AndMade::Got(Literal { word: new }, p)
 }
