@@ -1,4 +1,4 @@
-/* Trazzughes: and-inverter graphs, their traversal, evaluation and fanouts, and their stages. Apache-2.0.
+/* Trazzughes: and-inverter graphs of netlists, their traversal, evaluation and fanouts, and their stages. Apache-2.0.
  *
  * Every call here is proved to answer and to leave exactly what is said of it, whatever numbers and tables it is given;
  * nothing is asked of a caller but this:
@@ -15,6 +15,14 @@
  *
  *    1  a count, a room, a list's length or a level is out of its bounds (LIMITS)
  *    2  a table's length disagrees with its count, or is too short for work or counts
+ *    3  a cell's kind is above 12, or cell 0 is not the top, or another is
+ *    4  a cell is a latch
+ *    5  the pins or the cells' lists break a rule, an index out of range included (NETLIST)
+ *    6  the nets break a rule
+ *    7  the netlist has a loop
+ * 8, 9  of the first clock walk that fails: 8, it meets, in its first 64 cells, a kind other than INV, BUF and CKLNQD;
+ *       9, it meets a 65th cell
+ *   10  a gated clock reaches a pin that must have a logic bit
  *   12  the graph breaks a rule (GRAPH)
  *   13  split levels do not strictly increase
  *   15  an index is out of range; an endpoint or handed-on pin repeats where a set is asked; a subset has an endpoint
@@ -26,12 +34,42 @@
  * past those that are said here, those of `counts` likewise, and all of `work`, are 0. What a table held before a call
  * does not matter.
  *
- * COUNTS. `counts` has at least 3 words (else 2) and gets up to three numbers that belong to the answer.
+ * COUNTS. `counts` has at least 3 words (else 2) and gets up to three numbers that belong to the answer; at least 5 for
+ * trazz_build, which has five.
  *
  * WORK. `work` has at least 12 * pins + 4 * endpoints + 64 words, where endpoints = outputs + dffs + rams; for
- * trazz_traverse endpoints is 0.
+ * trazz_traverse endpoints is 0. For trazz_build it has at least 8 * pin_count + 8 * pin_room + 1024.
  *
  * LITERALS. A literal is twice its pin, and 1 more where it is inverted.
+ *
+ * NETLIST. Cells, pins and nets are numbered from 0; cell 0 is the top. A netlist is three counts and five tables:
+ *
+ *   kinds    cell_count words: 0 top, 1 AND2_00_0, 2 AND2_01_0, 3 AND2_10_0, 4 AND2_11_0, 5 AND2_11_1, 6 INV, 7 BUF,
+ *            8 DFF, 9 DFFSR, 10 CKLNQD, 11 RAM ($__RAMGEM_SYNC_), 12 LATCH
+ *   starts   cell_count + 1 words: the list of cell c stands in `list` from starts[c] up to starts[c + 1]; the first is
+ *            0, the last pin_count, and none is less than the one before
+ *   list     pin_count words: the pins of each cell, in an order of your choice; every pin stands in its own cell's
+ *            list, once
+ *   pins     5 * pin_count words, of each pin: its cell; its name; its bit, 0 where it has none; its direction, 0 in,
+ *            1 out; its net. Names: 0 port, 1 A, 2 B, 3 the output, 4 D, 5 CLK, 6 S, 7 R, 8 CP, 9 E,
+ *            10 PORT_R_ADDR, 11 PORT_R_CLK, 12 PORT_R_RD_DATA, 13 PORT_W_ADDR, 14 PORT_W_CLK, 15 PORT_W_WR_DATA,
+ *            16 PORT_W_WR_EN
+ *   nets     net_count words: 0 for a net that is constant 0, 1 for constant 1, 2 + p for a net that pin p drives
+ *
+ * Of the pins (5): AND2 has A, B and an output, INV and BUF A and an output, CKLNQD CP, E and an output; DFF and DFFSR
+ * an output and, if you like, D, CLK, S, R; a RAM any of its own. Address bits are 0 to 12, data and write-enable bits
+ * 0 to 31. Outputs and read data are out, the others in. No other pin is there, and none twice. The top's pins are
+ * ports, any number of them, of name 0 and bit 0: an input port has direction out, an output port in.
+ *
+ * Of the nets (6): the pin that drives a net is an out pin on that net, and every out pin drives its net.
+ *
+ * Of loops (7): an in pin visits the pin that drives its net; the output of AND2, INV and BUF visits its inputs, that
+ * of CKLNQD CP and E, that of a flip-flop S and R. No visit comes back to where it was.
+ *
+ * Of clocks: a walk goes from a CLK, PORT_R_CLK or PORT_W_CLK against INV, BUF and CKLNQD (CP) to an input port or a
+ * constant. Walks are taken by cells upward, then in list order; 8 or 9 is that of the first walk that fails. A CKLNQD
+ * output, and what a net, INV or BUF carries it to, has no logic bit, and must not reach (10) an AND2, D, S, R, E, a
+ * RAM's address, data or write enable, or an output port.
  *
  * GRAPH. Pins run from 0 to `pins`; pin 0 is the constant 0. A graph is four counts and four tables:
  *
@@ -67,8 +105,9 @@
  * inputs of each endpoint taken. Where one leaves, the last member takes its place. Endpoints that were taken leave the
  * endpoints left in the same way, one by one.
  *
- * LIMITS. pins and every list's length at most 16,777,215; outputs, dffs and rams at most 1,048,576 each; fanout
- * lists at most 33,554,430 words; levels at most 16,777,215; split levels at most 64; stages at most 65.
+ * LIMITS. cell_count 1 to 1,048,576; pin_count and net_count at most 1,048,576 each. pins and every list's length at
+ * most 16,777,215; outputs, dffs and rams at most 1,048,576 each; fanout lists at most 33,554,430 words; levels at most
+ * 16,777,215; split levels at most 64; stages at most 65. A room has the bound of what it holds.
  */
 #ifndef TRAZZUGHES_H
 #define TRAZZUGHES_H
@@ -89,6 +128,45 @@ extern "C" {
 #define TRAZZ_DFF UINT32_C(1)
 #define TRAZZ_RAM UINT32_C(2)
 #define TRAZZ_HANDED UINT32_C(3)
+
+/* The literal of a gated clock, and of one behind an odd number of inverters, which have no logic bit. */
+#define TRAZZ_MARKER UINT32_C(4294967295)
+#define TRAZZ_MARKER_INVERTED UINT32_C(4294967294)
+
+/* The graph of the netlist, for as many pins, output literals, flip-flops, RAMs and fanouts as the rooms say. Results:
+ *
+ *   drivers        3 * (pin_room + 1) words; as GRAPH says, one row for each pin of the graph from 0
+ *   outputs        output_room words: the literals of the output ports, each once, in the order of visits; a port that
+ *                  is tied straight to a constant net adds none
+ *   dffs           3 * dff_room words: the flip-flops, as GRAPH says, in the order in which they were first met
+ *   rams           123 * ram_room words: the RAMs likewise
+ *   literals       pin_count words: the literal of each netlist pin, or a marker
+ *   fanout_starts  pin_room + 2 words, and
+ *   fanouts        fanout_room words: as trazz_fanouts gives them
+ *
+ * counts: how many pins the graph has, pin 0 left out; gates; output literals; flip-flops; RAMs. These are the counts
+ * that the other calls take, and the first words of each table, as many as the counts ask for, are their tables.
+ *
+ * The graph has a pin for each port and edge at which a clock walk ends, each input port, flip-flop and read-data bit,
+ * and each gate. Gates are at most 1 an AND2, 6 a flip-flop, 32 a RAM, and 1 for each CKLNQD on each clock walk. Twice
+ * the gates is the room for fanouts. Refusals 1 to 11. */
+uint32_t trazz_build(
+    uint32_t cell_count, uint32_t pin_count, uint32_t net_count,
+    uint32_t pin_room, uint32_t output_room, uint32_t dff_room, uint32_t ram_room, uint32_t fanout_room,
+    const uint32_t *kinds, size_t kinds_length,
+    const uint32_t *starts, size_t starts_length,
+    const uint32_t *list, size_t list_length,
+    const uint32_t *pins, size_t pins_length,
+    const uint32_t *nets, size_t nets_length,
+    uint32_t *drivers, size_t drivers_length,
+    uint32_t *outputs, size_t outputs_length,
+    uint32_t *dffs, size_t dffs_length,
+    uint32_t *rams, size_t rams_length,
+    uint32_t *literals, size_t literals_length,
+    uint32_t *fanout_starts, size_t fanout_starts_length,
+    uint32_t *fanouts, size_t fanouts_length,
+    uint32_t *counts, size_t counts_length,
+    uint32_t *work, size_t work_length);
 
 /* Does the graph keep all rules? 0, or 1, 2, 12. */
 uint32_t trazz_check_graph(

@@ -10,7 +10,7 @@ pub const MOST_PINS: usize = 16_777_215;
 pub const MOST_RECORDS: usize = 1_048_576;
 
 /// The four tables of a graph as words, and its counts.
-#[derive(Clone)]
+#[derive(Clone, Default)]
 pub struct Words {
     pub pins: u32,
     pub output_count: u32,
@@ -73,7 +73,7 @@ impl Case {
 }
 
 /// Mostly levels that strictly increase; now and then equal, falling, too large or too many.
-fn levels(random: &mut Random) -> Vec<usize> {
+pub fn levels(random: &mut Random) -> Vec<usize> {
     let count = if random.one_in(20) { random.below(65) } else { random.below(6) };
     let step = random.pick(&[1, 1, 2, 4, 30]);
     let mut level = random.below(3);
@@ -96,7 +96,7 @@ pub fn narrow(list: &[usize]) -> Vec<u32> {
     list.iter().map(|&word| word as u32).collect()
 }
 
-fn words(graph: &Graph) -> Words {
+pub fn words(graph: &Graph) -> Words {
     let driver = |driver: &Driver| match *driver {
         Driver::Constant => [0, 0, 0],
         Driver::And(a, b) => [1, a, b],

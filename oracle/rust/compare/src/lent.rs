@@ -31,10 +31,14 @@ impl Lent {
         self.length
     }
 
+    pub fn words(&self) -> &[u32] {
+        &self.words[GUARDS..GUARDS + self.length]
+    }
+
     /// Whether it holds these words and then 0, and its guards are whole.
     pub fn holds(&self, used: &[u32]) -> bool {
         let end = GUARDS + self.length;
-        let own = &self.words[GUARDS..end];
+        let own = self.words();
         let guarded =
             |range: std::ops::Range<usize>| range.into_iter().all(|i| self.words[i] == guard(i));
         used.len() <= own.len()

@@ -1,11 +1,30 @@
 //! The calls of `include/trazzughes.h`.
 
+use crate::builds::{Built, NetlistWords};
 use crate::case::Words;
 use crate::lent::Lent;
 
 #[rustfmt::skip]
 mod c {
     extern "C" {
+        pub fn trazz_build(
+            cells: u32, pins: u32, nets: u32,
+            pin_room: u32, output_room: u32, dff_room: u32, ram_room: u32, fanout_room: u32,
+            kinds: *const u32, _: usize,
+            starts: *const u32, _: usize,
+            list: *const u32, _: usize,
+            pins: *const u32, _: usize,
+            nets: *const u32, _: usize,
+            drivers: *mut u32, _: usize,
+            outputs: *mut u32, _: usize,
+            dffs: *mut u32, _: usize,
+            rams: *mut u32, _: usize,
+            literals: *mut u32, _: usize,
+            fanout_starts: *mut u32, _: usize,
+            fanouts: *mut u32, _: usize,
+            counts: *mut u32, _: usize,
+            work: *mut u32, _: usize,
+        ) -> u32;
         pub fn trazz_check_graph(
             pins: u32, outputs: u32, dffs: u32, rams: u32,
             _: *const u32, _: usize, _: *const u32, _: usize, _: *const u32, _: usize, _: *const u32, _: usize,
@@ -113,6 +132,16 @@ macro_rules! call {
     };
     // The pointers and lengths are those of whole tables that overlap nowhere.
     (@ $name:ident [$($done:expr),*]) => { unsafe { c::$name($($done),*) } };
+}
+
+pub fn build(n: &NetlistWords, to: &mut Built) -> u32 {
+    let [pins, outputs, dffs, rams, fanouts] = to.rooms;
+    call!(
+        @ trazz_build [n.cell_count, n.pin_count, n.net_count, pins, outputs, dffs, rams, fanouts]
+        in n.kinds, in n.starts, in n.list, in n.pins, in n.nets,
+        out to.drivers, out to.outputs, out to.dffs, out to.rams,
+        out to.literals, out to.starts, out to.fanouts, out to.counts, out to.work,
+    )
 }
 
 pub fn check_graph(w: &Words, work: &mut Lent) -> u32 {

@@ -1,6 +1,7 @@
-//! Compares the static library with the unchanged Rust, in one process, on graphs made by chance.
+//! Compares the static library with the unchanged Rust, in one process, on graphs made by chance, or with
+//! `--netlists` on netlists: building, and the stages of what was built.
 //!
-//! `compare [--seed N] [--first N] [--count N] [--size N]`
+//! `compare [--netlists] [--seed N] [--first N] [--count N] [--size N]`
 //!
 //! Where document 01 accepts, every word must be the Rust's; where it refuses, the number must be the
 //! model's. All tables start full of other words, with guard words around them.
@@ -13,9 +14,12 @@ mod aig;
 #[rustfmt::skip]
 #[path = "../../../target/gem/src/aigpdk.rs"]
 mod aigpdk;
+#[path = "../../generate/src/broken.rs"]
+mod broken;
 #[allow(dead_code)]
 #[path = "../../model/src/build.rs"]
 mod build;
+mod builds;
 mod case;
 #[allow(dead_code)]
 #[path = "../../model/src/check.rs"]
@@ -50,12 +54,25 @@ use random::Random;
 use std::process::ExitCode;
 use tally::Tally;
 
-const USAGE: &str = "compare [--seed N] [--first N] [--count N] [--size N]";
+const USAGE: &str = "compare [--netlists] [--seed N] [--first N] [--count N] [--size N]";
+
+/// The Rust recurses over pins, so deep graphs need a deep stack; only what is used of it is taken.
+const STACK: usize = 4 << 30;
 
 fn main() -> ExitCode {
+    let work = std::thread::Builder::new().stack_size(STACK).spawn(run);
+    work.expect("a thread").join().expect("no panic")
+}
+
+fn run() -> ExitCode {
     let (mut seed, mut first, mut count, mut size) = (1, 0, 1000, 24);
+    let mut netlists = false;
     let mut arguments = std::env::args().skip(1);
     while let Some(argument) = arguments.next() {
+        if argument == "--netlists" {
+            netlists = true;
+            continue;
+        }
         let number = arguments.next().and_then(|word| word.parse().ok()).expect(USAGE);
         match argument.as_str() {
             "--seed" => seed = number,
@@ -68,6 +85,10 @@ fn main() -> ExitCode {
     let mut tally = Tally::default();
     for number in first..first + count {
         let mut random = Random::new(seed, number);
+        if netlists {
+            builds::build(&mut tally, &mut random, number, size);
+            continue;
+        }
         let case = Case::new(&mut random, size);
         tally.begin(number, case.origin);
         compare(&mut tally, &mut random, &case);
