@@ -51,8 +51,12 @@ class Names:
     def __init__(self, root):
         self.types, self.words, self.lemmas, self.imported, self.joints = set(), set(), set(), set(), set(STD)
         crates = os.path.join(root, "crates")
+        self.functions = set()
         for path in files(crates, (".antt", ".rt")):
             self.imports(path)
+            if path.endswith(".rt"):
+                with open(path, encoding="utf-8") as f:
+                    self.functions.update(re.findall(r"\bfn (\w+)", f.read()))
         for path in files(crates, (".antt",)):
             if os.path.basename(path) not in PROOF_FILES:
                 self.declared(path, os.sep + "specs" + os.sep in path)
@@ -134,9 +138,11 @@ def clashes(table, names):
     return {new: olds for new, olds in back.items() if len(olds) > 1}
 
 
-def turn(text, table, ending):
+def turn(text, table, ending, functions=frozenset()):
     def word(m):
         t = m.group(0)
+        if ending == ".rt" and t in functions:
+            return t
         return table.get(t, snake(t) if re.fullmatch(r"[a-z][a-z0-9]*([A-Z][a-z0-9]*)+[₀'0-9]*", t) and t not in KEEP else t)
 
     def comment(c):
@@ -181,7 +187,7 @@ def main():
     for path in list(files(os.path.join(root, "crates"), (".antt", ".rt"))) + list(files(os.path.join(root, "docs"), (".md",))) + [os.path.join(root, "README.md")]:
         with open(path, encoding="utf-8") as f:
             text = f.read()
-        new = turn(text, table, os.path.splitext(path)[1])
+        new = turn(text, table, os.path.splitext(path)[1], names.functions)
         for crate, (a, b) in MODULES.items():
             new = new.replace(f"Rattle.{crate}.specs.{a}.", f"Rattle.{crate}.specs.{b}.")
             if path.endswith(f"crates/{crate}/specs/Lib.antt"):

@@ -1,4 +1,6 @@
 // Prints the answer text into a lent buffer, from a place on, as far as the buffer reaches. specs/ says what each line is.
+#![tactic(auto)]
+
 ghost use Rattle.std.specs.Prelude.{◌≡◌, [], ◌∷◌, ◌+◌, ◌-◌, ◌≤◌, ◌<◌, length, get_or, take, drop};
 ghost use Rattle.laws.specs.Tests.{if◌then◌else◌, ◌≤?◌};
 ghost use Rattle.laws.specs.Words.{part};

@@ -1,4 +1,6 @@
 // The core of a split asked alone: what the graph check leaves to test, and the split.
+#![tactic(auto)]
+
 ghost use Rattle.std.specs.Prelude.{◌≡◌, ℕ, ◌+◌, ◌*◌, ◌<◌, ◌≤◌, length};
 ghost use Rattle.laws.specs.Words.{zeros};
 ghost use Rattle.asked.specs.Answer.{lists_fit, Sound, Room, Begun, Parts, Parted1};

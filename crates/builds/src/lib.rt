@@ -1,1 +1,2 @@
 // Laws of building a graph; no code.
+#![tactic(auto)]

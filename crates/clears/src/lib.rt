@@ -1,4 +1,6 @@
 // After a split: the words that it used are 0 again, what it handed on stops later walks, and what it took has left its set.
+#![tactic(auto)]
+
 ghost use Rattle.std.specs.Prelude.{◌≡◌, ℕ, ◌+◌, ◌*◌, ◌<◌, ◌≤◌, length};
 ghost use Rattle.laws.specs.Words.{part};
 ghost use Rattle.walk.specs.State.{Listing};

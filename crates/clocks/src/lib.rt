@@ -1,4 +1,6 @@
 // Clock walks: from a clock pin back through INV, BUF and CKLNQD to an input port or a constant net.
+#![tactic(auto)]
+
 ghost use Rattle.std.specs.Prelude.{◌≡◌, ℕ, ◌+◌, ◌*◌, ◌<◌, ◌≤◌, length, get_or};
 ghost use Rattle.rules.specs.Cells.{other_edge};
 ghost use Rattle.rules.specs.Build.{role, walk_by, walk};

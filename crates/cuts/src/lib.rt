@@ -1,1 +1,2 @@
 // Laws of one split and of the stages; no code.
+#![tactic(auto)]

@@ -1,5 +1,7 @@
 // A graph in the making: the driver table with its running tallies. Each step adds what the rules add, or says that the
 // table is full; how known pairs are found lies in the work words from `at` on.
+#![tactic(auto)]
+
 ghost use Rattle.std.specs.Prelude.{◌≡◌, Bool, true, false, ℕ, ◌+◌, ◌*◌, ◌<◌, ◌≤◌, length};
 ghost use Rattle.rules.specs.Graph.{and_of, or_not};
 ghost use Rattle.rules.specs.Build.{is_gate};

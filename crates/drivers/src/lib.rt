@@ -1,4 +1,6 @@
 // The driver table: three words a pin, read and written as the declared driver.
+#![tactic(auto)]
+
 ghost use Rattle.std.specs.Prelude.{◌≡◌, ◌+◌, ◌*◌, ◌<◌, length, set};
 ghost use Rattle.rules.specs.Tables.{unused, flag_in, decode, decode_at, edge_word};
 ghost use Rattle.drivers.specs.Written.{written};

@@ -1,4 +1,6 @@
 // An entry more in the tables: a flip-flop's record, a RAM's record, an output literal; or a pin's literal and nothing more.
+#![tactic(auto)]
+
 ghost use Rattle.std.specs.Prelude.{◌≡◌, true, ℕ, ◌+◌, ◌*◌, ◌<◌, ◌≤◌, length, set};
 ghost use Rattle.drafts.specs.Table.{Table};
 ghost use Rattle.numbers.specs.Numbering.{counted, numbered, flops_counted, rams_counted};

@@ -1,4 +1,6 @@
 // The reference evaluator: one bit a pin, in one upward pass.
+#![tactic(auto)]
+
 ghost use Rattle.std.specs.Prelude.{◌≡◌, ◌/◌, ◌<◌, ◌≤◌, length, get_or};
 ghost use Rattle.laws.specs.Tests.{one};
 ghost use Rattle.rules.specs.Answers.{source_of};

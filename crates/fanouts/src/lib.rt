@@ -1,5 +1,7 @@
 // Fanouts: for each pin the gates that read it, in falling order, one list after the other. As in the Rust: count, sum up, then
 // fill each list from its back, gates upward.
+#![tactic(auto)]
+
 ghost use Rattle.std.specs.Prelude.{◌≡◌, ◌+◌, ◌-◌, ◌*◌, ◌/◌, ◌<◌, ◌≤◌, length, get_or};
 ghost use Rattle.laws.specs.Lists.{over};
 ghost use Rattle.laws.specs.Words.{zeros};

@@ -1,4 +1,6 @@
 // The end of building: the literals leave the work words for their table, and the fanouts are listed.
+#![tactic(auto)]
+
 ghost use Rattle.std.specs.Prelude.{◌≡◌, ℕ, ◌+◌, ◌*◌, ◌<◌, ◌≤◌, length};
 ghost use Rattle.laws.specs.Words.{zeros, part};
 ghost use Rattle.walk.specs.State.{Operands};

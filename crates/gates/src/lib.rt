@@ -1,6 +1,8 @@
 // The AND step: the gate of two literals, an old one if the pair is known, else a new pin. How a known pair is found is
 // behind `Ready`: in the work words from a place on lie one link a pin, to the next lower gate of its bucket, and behind
 // them the heads of the buckets, each the highest gate in it.
+#![tactic(auto)]
+
 ghost use Rattle.std.specs.Prelude.{◌≡◌, ℕ, ◌+◌, ◌*◌, ◌/◌, ◌<◌, ◌≤◌, length};
 ghost use Rattle.rules.specs.Graph.{first_pin, is_pair};
 ghost use Rattle.rules.specs.Tables.{drivers_in};

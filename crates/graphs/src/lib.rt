@@ -1,4 +1,6 @@
 // The graph check: what refusal 12 asks of records, outputs and their literals, in linear time.
+#![tactic(auto)]
+
 ghost use Rattle.std.specs.Prelude.{◌≡◌, true, ◌&&◌, ℕ, ◌+◌, ◌*◌, ◌<◌, ◌≤◌, length, get_or, replicate};
 ghost use Rattle.laws.specs.Tests.{◌==◌, same};
 ghost use Rattle.marks.specs.Marking.{Clear, MarkedAll};

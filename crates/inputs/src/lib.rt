@@ -1,4 +1,6 @@
 // An endpoint's input number i: the pins that it reads, pin 0 not counted.
+#![tactic(auto)]
+
 ghost use Rattle.std.specs.Prelude.{◌≡◌, ◌&&◌, ℕ, ◌*◌, ◌<◌, ◌≤◌, length, get_or, [], ◌∷◌};
 ghost use Rattle.laws.specs.Tests.{◌≤?◌};
 ghost use Rattle.rules.specs.Bounds.{graph_within};

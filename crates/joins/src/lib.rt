@@ -1,5 +1,7 @@
 // The set that low pins join, and the readers that are done: from 6 * m on lies the set of pins, with its places from 7 * m.
 // A pin leaves the set as soon as nothing more reads it. Nothing searches a list.
+#![tactic(auto)]
+
 ghost use Rattle.std.specs.Prelude.{◌≡◌, [], ◌∷◌, ℕ, ◌+◌, ◌*◌, ◌<◌, ◌≤◌, length, get_or};
 ghost use Rattle.laws.specs.Lists.{flat};
 ghost use Rattle.laws.specs.Words.{part};

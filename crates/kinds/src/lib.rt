@@ -1,4 +1,6 @@
 // The constant table of the kinds of cells: which pins each must and may have, and the inversion digits of the AND2s.
+#![tactic(auto)]
+
 ghost use Rattle.std.specs.Prelude.{◌≡◌, ◌<◌};
 ghost use Rattle.kinds.specs.Slots.{kind_word, slot_allows};
 

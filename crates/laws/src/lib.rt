@@ -1,1 +1,2 @@
 // Definitions and lemmas on lists, words and depth-first search; no code.
+#![tactic(auto)]

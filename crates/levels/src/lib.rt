@@ -1,5 +1,7 @@
 // The visits of a split, and what they leave for each pin: its level, and how many readers it has. With m = pins + 1 the
 // levels lie from 4 * m, the readers from 5 * m, and from 8 * m on lie the endpoints that are left.
+#![tactic(auto)]
+
 ghost use Rattle.std.specs.Prelude.{◌≡◌, [], ℕ, suc, ◌+◌, ◌*◌, ◌<◌, ◌≤◌, max, length, get_or, set};
 ghost use Rattle.laws.specs.Lists.{flat};
 ghost use Rattle.laws.specs.Words.{part};

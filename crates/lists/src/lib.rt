@@ -1,4 +1,6 @@
 // The cells' pin lists: they lie one behind the other, each names pins of its own cell alone, and the required pins are there.
+#![tactic(auto)]
+
 ghost use Rattle.std.specs.Prelude.{◌≡◌, ◌+◌, ◌*◌, ◌<◌, ◌≤◌, length, take, drop};
 ghost use Rattle.laws.specs.Lists.{every, upto};
 ghost use Rattle.lists.specs.Parts.{rising, laid, own, fitting, Starts, Inside, Kinded, unnamed, must_by, musts_in, musts};

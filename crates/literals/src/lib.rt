@@ -1,4 +1,6 @@
 // The literals of netlist pins, kept in the work words from 7 * m on, and what the output of a cell makes of them.
+#![tactic(auto)]
+
 ghost use Rattle.std.specs.Prelude.{◌≡◌, ℕ, ◌+◌, ◌*◌, ◌<◌, ◌≤◌, length, get_or, set};
 ghost use Rattle.laws.specs.Lists.{first_or};
 ghost use Rattle.rules.specs.declared.Driver.TheVariants.{Port};

@@ -1,5 +1,7 @@
 // Which netlist pins carry a marker (no logic bit), along the events that `orders` writes: with m pins the events lie from
 // 2 * m on, and one word a pin from m on says 0 for none, 1 for the marker, 2 for the marker after an odd number of INVs.
+#![tactic(auto)]
+
 ghost use Rattle.std.specs.Prelude.{◌≡◌, ℕ, ◌+◌, ◌*◌, ◌<◌, ◌≤◌, length, get_or, set};
 ghost use Rattle.rules.specs.Build.{role};
 ghost use Rattle.roles.specs.Reading.{tables, Fits, says};

@@ -1,4 +1,6 @@
 // Sets of numbers as marks in lent words: one word a number, 1 where it is in the set.
+#![tactic(auto)]
+
 ghost use Rattle.std.specs.Prelude.{◌≡◌, ℕ, ◌+◌, ◌<◌, ◌≤◌, length, get_or};
 ghost use Rattle.marks.specs.Marking.{Clear, Marked, MarkedAll};
 

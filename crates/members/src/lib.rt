@@ -1,5 +1,7 @@
 // The ordered set in lent words: its members, in order, lie from a on; from a + cap on lies, for each number below cap, its
 // place plus 1, or 0 where it is not in. A member that leaves is replaced by the last one.
+#![tactic(auto)]
+
 ghost use Rattle.std.specs.Prelude.{◌≡◌, ℕ, ◌+◌, ◌<◌, ◌≤◌, length};
 ghost use Rattle.laws.specs.Words.{AllBelow};
 ghost use Rattle.members.specs.Set.{SetIn, Inserted, Removed, InsertedAll, FilledUp};

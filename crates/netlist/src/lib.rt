@@ -1,4 +1,6 @@
 // Tests 1 to 6 on the netlist tables: counts, lengths, kinds, lists, pins and nets.
+#![tactic(auto)]
+
 ghost use Rattle.std.specs.Prelude.{◌≡◌, ◌+◌, ◌*◌, ◌<◌, ◌≤◌, length};
 ghost use Rattle.laws.specs.Words.{zeros};
 ghost use Rattle.rules.specs.Netlist.{kinds_fit, no_latch};
@@ -61,7 +63,7 @@ pub fn netlist_long(
 }
 
 // A kind up to 12, and the top where and only where it is cell 0.
-fn kind_fits_lem(kind: u32, cell: usize) -> bool
+fn kind_fits(kind: u32, cell: usize) -> bool
     ensures { result ≡ kind_fits kind cell }
 {
     if 12 < kind {
@@ -79,7 +81,7 @@ fn kinds_fit(kinds: &[u32]) -> bool
 {
     let mut cell = 0;
     while cell < kinds.len() {
-        let fits = kind_fits_lem(kinds[cell], cell);
+        let fits = kind_fits(kinds[cell], cell);
         if !fits {
             return false;
         }

@@ -1,4 +1,6 @@
 // 6: a net is constant or driven by an out pin on it, and an out pin drives its net.
+#![tactic(auto)]
+
 ghost use Rattle.std.specs.Prelude.{◌≡◌, ◌&&◌, ◌+◌, ◌*◌, ◌<◌, ◌≤◌, length};
 ghost use Rattle.laws.specs.Lists.{every, upto};
 ghost use Rattle.pins.specs.Words.{pin_at};

@@ -1,4 +1,6 @@
 // The numbers of records: a flip-flop's or a RAM's record stands in first-made order, and its number is kept in the work words.
+#![tactic(auto)]
+
 ghost use Rattle.std.specs.Prelude.{◌≡◌, ℕ, ◌+◌, ◌<◌, ◌≤◌, length, get_or, set};
 ghost use Rattle.numbers.specs.Numbering.{counted, numbered, flops_counted, rams_counted};
 

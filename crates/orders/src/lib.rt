@@ -1,6 +1,8 @@
 // The depth-first visits of step 2 over the pins of a netlist, which may have loops. With m pins the work words hold: one
 // mark a pin from 0 (0 not entered, 1 on the stack, 2 left), the stack from m, and the events from 2 * m, one word each:
 // twice the pin where it is entered, and 1 more where it is left. Words from 4 * m on are the caller's.
+#![tactic(auto)]
+
 ghost use Rattle.std.specs.Prelude.{◌≡◌, ℕ, ◌+◌, ◌*◌, ◌<◌, ◌≤◌, length, get_or};
 ghost use Rattle.roles.specs.Reading.{tables, Fits, entry_of};
 ghost use Rattle.roles.specs.declared.Entry.TheVariants.{Pin};

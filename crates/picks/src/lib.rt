@@ -1,4 +1,6 @@
 // What a stage takes and hands on, written behind what a table holds already; it is said where a word would not fit.
+#![tactic(auto)]
+
 ghost use Rattle.std.specs.Prelude.{◌≡◌, [], ◌∷◌, ℕ, ◌+◌, ◌*◌, ◌<◌, ◌≤◌, length};
 ghost use Rattle.laws.specs.Words.{part};
 ghost use Rattle.rules.specs.Answers.{endpoints};

@@ -1,4 +1,6 @@
 // The pins of a netlist one by one: their words in range, and the kinds of cells that may have them.
+#![tactic(auto)]
+
 ghost use Rattle.std.specs.Prelude.{◌≡◌, ◌+◌, ◌*◌, ◌<◌, ◌≤◌, length};
 ghost use Rattle.laws.specs.Lists.{every, upto};
 ghost use Rattle.pins.specs.Words.{pin_at, ranged, Held, Ranged, slotted};

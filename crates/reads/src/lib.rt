@@ -1,4 +1,6 @@
 // The literals that an endpoint reads, by number: an output its own, a flip-flop enable and next, a RAM its 91.
+#![tactic(auto)]
+
 ghost use Rattle.std.specs.Prelude.{◌≡◌, ◌+◌, ◌*◌, ◌/◌, ◌<◌, length, get_or};
 ghost use Rattle.rules.specs.Stages.{dff_reads};
 ghost use Rattle.rules.specs.Tables.{record_in};

@@ -1,4 +1,6 @@
 // No cell but the top has two pins of one name and bit: looked for in one pass over the cells' lists.
+#![tactic(auto)]
+
 ghost use Rattle.std.specs.Prelude.{◌≡◌, ◌+◌, ◌*◌, ◌<◌, length};
 ghost use Rattle.marks.specs.Marking.{Clear};
 ghost use Rattle.repeats.specs.Alike.{code_of, Stamped, Sorted, Looked};

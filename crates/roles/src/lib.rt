@@ -1,4 +1,6 @@
 // A netlist read off its words: what a pin is, the pins of a cell by their names, and where a visit goes.
+#![tactic(auto)]
+
 ghost use Rattle.std.specs.Prelude.{◌≡◌, ◌||◌, [], ◌∷◌, ℕ, ◌+◌, ◌*◌, ◌<◌, ◌≤◌, length, get_or, take, drop};
 ghost use Rattle.laws.specs.Tests.{◌==◌, one};
 ghost use Rattle.rules.specs.Netlist.{named, pin_named};

@@ -1,9 +1,11 @@
 // The types that document 01 declares. What they mean is said in specs/.
+#![tactic(auto)]
+
 ghost use Rattle.std.specs.Prelude.{◌≡◌};
 ghost use Rattle.rules.specs.Graph.{opposite, pin_of, inverted};
 
 // A literal: twice its pin, and 1 more where it is inverted.
-#[derive(Drop)]
+#[derive(Clone, Copy)]
 pub struct Literal {
     pub word: u32,
 }
@@ -37,7 +39,7 @@ impl Literal {
     }
 }
 
-#[derive(Drop)]
+#[derive(Clone, Copy)]
 pub enum Edge {
     Rising,
     Falling,
@@ -45,7 +47,7 @@ pub enum Edge {
 
 // What drives a pin of the graph: an AND gate of two literals, an input port, a clock flag of a port and an edge,
 // a flip-flop's or a RAM's cell, or nothing: constant 0.
-#[derive(Drop)]
+#[derive(Clone, Copy)]
 pub enum Driver {
     And(Literal, Literal),
     Port(u32),
@@ -56,14 +58,14 @@ pub enum Driver {
 }
 
 // What three words of a driver table say: a driver, or none of the cases.
-#[derive(Drop)]
+#[derive(Clone, Copy)]
 pub enum Decoded {
     Is(Driver),
     Bad,
 }
 
 // A flip-flop record: the literals of its next bit and its enable, and its pin.
-#[derive(Drop)]
+#[derive(Clone, Copy)]
 pub struct Record {
     pub next: u32,
     pub enable: u32,
@@ -71,7 +73,7 @@ pub struct Record {
 }
 
 // What has to be worked out: an output literal, a flip-flop or a RAM by its place in its table, or a handed-on pin.
-#[derive(Drop)]
+#[derive(Clone, Copy)]
 pub enum Endpoint {
     Output(u32),
     Flop(u32),
@@ -80,7 +82,7 @@ pub enum Endpoint {
 }
 
 // The running counts of a graph.
-#[derive(Drop)]
+#[derive(Clone, Copy)]
 pub struct Tally {
     pub pins: u32,
     pub gates: u32,
@@ -90,7 +92,7 @@ pub struct Tally {
 }
 
 // How many cells, pins and nets a netlist has.
-#[derive(Drop)]
+#[derive(Clone, Copy)]
 pub struct NetlistCounts {
     pub cells: u32,
     pub pins: u32,
@@ -98,7 +100,7 @@ pub struct NetlistCounts {
 }
 
 // How many pins, output literals, flip-flop and RAM records a graph has.
-#[derive(Drop)]
+#[derive(Clone, Copy)]
 pub struct GraphCounts {
     pub pins: u32,
     pub outputs: u32,
@@ -107,7 +109,7 @@ pub struct GraphCounts {
 }
 
 // How many of each a caller has room for.
-#[derive(Drop)]
+#[derive(Clone, Copy)]
 pub struct Rooms {
     pub pins: u32,
     pub outputs: u32,
@@ -117,46 +119,46 @@ pub struct Rooms {
 }
 
 // The answers. Each is the result's counts, or the number of the refusal.
-#[derive(Drop)]
+#[derive(Clone, Copy)]
 pub enum Done {
     Accepted,
     Refused(u32),
 }
 
-#[derive(Drop)]
+#[derive(Clone, Copy)]
 pub enum Built {
     Made(Tally),
     Refused(u32),
 }
 
 // How many pins are listed.
-#[derive(Drop)]
+#[derive(Clone, Copy)]
 pub enum Listed {
     Pins(u32),
     Refused(u32),
 }
 
 // How many pins a stage hands on, and how many endpoints it takes.
-#[derive(Drop)]
+#[derive(Clone, Copy)]
 pub enum Parted {
     Stage(u32, u32),
     Refused(u32),
 }
 
 // How many stages there are, how many pins they hand on in all, and how many endpoints they take.
-#[derive(Drop)]
+#[derive(Clone, Copy)]
 pub enum Staged {
     Stages(u32, u32, u32),
     Refused(u32),
 }
 
-#[derive(Drop)]
+#[derive(Clone, Copy)]
 pub enum Found {
     At(Endpoint),
     Refused(u32),
 }
 
-#[derive(Drop)]
+#[derive(Clone, Copy)]
 pub enum Read {
     Pin(u32),
     Refused(u32),

@@ -1,4 +1,6 @@
 // Between two stages: a row more, and the words made ready for the next split.
+#![tactic(auto)]
+
 ghost use Rattle.std.specs.Prelude.{[], ◌∷◌, ℕ, ◌+◌, ◌*◌, ◌<◌, ◌≤◌, length};
 ghost use Rattle.laws.specs.Words.{part};
 ghost use Rattle.members.specs.Set.{SetIn};

@@ -1,4 +1,6 @@
 // The netlist tables of a text that was read. specs/Sheets.antt says what each holds.
+#![tactic(auto)]
+
 ghost use Rattle.std.specs.Prelude.{◌≡◌, ◌+◌, ◌-◌, ◌<◌, ◌≤◌, length, get_or, set};
 ghost use Rattle.texts.specs.Text.{stored};
 ghost use Rattle.sheets.specs.Sheets.{words_from, kinds_from, starts_from, list_from, net_word, nets_from, read_number, Numbered, Copied};
@@ -131,7 +133,7 @@ pub fn fill_nets(ns: &[u32], ss: &[u32], first: u32, n: u32, out: &mut [u32])
 }
 
 // What a reading is answered with before document 01's tests.
-pub fn read_number_lem(r: Reading) -> u32
+pub fn read_number(r: Reading) -> u32
     ensures { Numbered r result }
 {
     let why = r.why;

@@ -1,4 +1,6 @@
 // 1 and 2 of building: counts and rooms within their bounds, and tables of the lengths that follow from them.
+#![tactic(auto)]
+
 ghost use Rattle.std.specs.Prelude.{◌≡◌};
 ghost use Rattle.rules.specs.Bounds.{rooms_within};
 ghost use Rattle.sizes.specs.Lengths.{records_long, results_long, sizes_number};

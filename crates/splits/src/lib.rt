@@ -1,5 +1,7 @@
 // One split: what a stage takes and what it hands on, written behind what its tables hold already. With m = pins + 1 the
 // work words hold the walk (to 4 * m), levels, readers, the set of pins with its places, and from 8 * m the endpoints left.
+#![tactic(auto)]
+
 ghost use Rattle.std.specs.Prelude.{◌≡◌, ℕ, ◌+◌, ◌*◌, ◌<◌, ◌≤◌, length};
 ghost use Rattle.laws.specs.Words.{part};
 ghost use Rattle.rules.specs.Answers.{endpoints};

@@ -1,4 +1,6 @@
 // Endpoints by number, the whole graph as one stage, and subsets of a stage: the calls that read no driver.
+#![tactic(auto)]
+
 ghost use Rattle.std.specs.Prelude.{◌≡◌, true, ℕ, ◌+◌, ◌*◌, ◌<◌, ◌≤◌, length};
 ghost use Rattle.laws.specs.Lists.{upto};
 ghost use Rattle.laws.specs.Words.{zeros, filled, part};

@@ -1,4 +1,6 @@
 // The running tallies, by value: one more of each sort when an entry is made.
+#![tactic(auto)]
+
 ghost use Rattle.std.specs.Prelude.{◌≡◌, ◌<◌, ◌≤◌};
 ghost use Rattle.tallies.specs.Counted.{pin_counted, output_counted, dff_counted, ram_counted};
 

@@ -1,4 +1,6 @@
 // What a caller in C is told: the number of an answer, and its counts in a lent table of three words or more.
+#![tactic(auto)]
+
 ghost use Rattle.std.specs.Prelude.{◌≡◌, [], ◌∷◌, ◌≤◌, length};
 ghost use Rattle.laws.specs.Words.{zeros, filled};
 ghost use Rattle.tells.specs.Telling.{done_number, listed_told, parted_told, staged_told, end_case, end_index, found_told, read_told, told_number, Tells, TellsOne, TellsTwo, TellsThree};

@@ -1,4 +1,6 @@
 // Reads the netlist text. specs/Reading.antt says which texts are accepted and what is read of them.
+#![tactic(auto)]
+
 ghost use Rattle.std.specs.Prelude.{◌≡◌, ◌+◌, ◌<◌, ◌≤◌, length, drop, set, get_or};
 ghost use Rattle.laws.specs.Tests.{one, if◌then◌else◌, ◌==◌};
 ghost use Rattle.words.specs.Tables.{same_words};

@@ -8,7 +8,7 @@ use answers::{
     put_bytes, put_drivers, put_field, put_line, put_numbered, put_part, put_rows, put_stages,
 };
 use rules::{Built, GraphCounts, NetlistCounts, Rooms, Staged, Tally};
-use sheets::{fill_kinds, fill_list, fill_nets, fill_starts, put_word, read_number_lem, word_at};
+use sheets::{fill_kinds, fill_list, fill_nets, fill_starts, put_word, read_number, word_at};
 use staging::build_staged_aigs;
 use texts::{Reading, read};
 
@@ -406,7 +406,7 @@ pub fn answer(text: &[u8], out: &mut [u8]) -> usize {
     let mut numbers = numbers_room();
     let mut starts = starts_room();
     let r = read(text, &mut numbers, &mut starts);
-    let k = read_number_lem(r);
+    let k = read_number(r);
     let lines = r.lines;
     let total = r.numbers;
     if k != 0 {

@@ -1,4 +1,6 @@
 // The visit order of a graph, asked alone.
+#![tactic(auto)]
+
 ghost use Rattle.std.specs.Prelude.{◌≡◌, true, ◌+◌, ◌≤◌};
 ghost use Rattle.laws.specs.Words.{AllBelow};
 ghost use Rattle.walk.specs.State.{Going, AllVisited};

@@ -1,4 +1,6 @@
 // Whether no marker reaches a pin that must have a logic bit (refusal 10), by the words that `markers` writes.
+#![tactic(auto)]
+
 ghost use Rattle.std.specs.Prelude.{◌≡◌, ◌||◌, ℕ, ◌+◌, ◌*◌, ◌<◌, ◌≤◌, length, get_or, take, drop};
 ghost use Rattle.laws.specs.Tests.{◌==◌};
 ghost use Rattle.laws.specs.Lists.{every};

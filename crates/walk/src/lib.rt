@@ -1,6 +1,8 @@
 // The depth-first walk over a driver table. With m = pins + 1 the work words hold, one for each pin: marks from 0, stops
 // from m (not 0 where the walk does not go past), the stack from 2 * m, and the pins listed from 3 * m. Words from 4 * m on
 // are the caller's.
+#![tactic(auto)]
+
 ghost use Rattle.std.specs.Prelude.{◌+◌, ◌*◌, ◌<◌, ◌≤◌, length};
 ghost use Rattle.laws.specs.Words.{AllBelow};
 ghost use Rattle.walk.specs.State.{Listing, Going, Next, Turned, Visited, AllVisited, Forgotten, Operands};

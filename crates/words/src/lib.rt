@@ -1,3 +1,5 @@
+#![tactic(auto)]
+
 ghost use Rattle.std.specs.Prelude.{◌≡◌, ◌<◌, ◌≤◌, ◌+◌, length, get_or, replicate};
 ghost use Rattle.laws.specs.Words.{part, zeros};
 ghost use Rattle.words.specs.Tables.{written, same_words, all_zero};

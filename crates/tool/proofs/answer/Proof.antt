@@ -5,7 +5,7 @@ use Rattle.tool.proofs.answer.Tie as tie
 use Rattle.tool.proofs.answer.Reads as reads
 use Rattle.tool.proofs.answer.Lts as lts
 use Rattle.sheets.proofs.put_word.Reads as put-word-reads
-use Rattle.sheets.proofs.read_number_lem.Reads as read-number-reads
+use Rattle.sheets.proofs.read_number.Reads as read-number-reads
 use Rattle.texts.proofs.read.Reads as read-reads
 use Rattle.tool.proofs.netlist_counts.Reads as netlist-counts-reads
 use Rattle.tool.proofs.numbers_room.Reads as numbers-room-reads
@@ -68,7 +68,7 @@ put-word-requires c κs = search rules
 
 -- src/lib.rt:370:9
 netlist-counts-requires : tie.Need-netlist-counts-requires
-netlist-counts-requires c κs = search (accepted_small, c.before.before.before.before.before.read_number_lem.ensures)
+netlist-counts-requires c κs = search (accepted_small, c.before.before.before.before.before.read_number.ensures)
 
 -- src/lib.rt:371:31
 slice-aggregate-put-tables : tie.Need-slice-aggregate-put-tables

@@ -1,0 +1,15 @@
+use Rattle.answers.proofs.Placing.{Bytes, bytes_begin, bytes_go_on, bytes_end}
+use lib.ListN.{length}
+use Prim.Native.Nat.{◌-◌}
+use borrow.Author.Rules.{rules}
+use native.Mathlib.Omega.{arith}
+use Rattle.answers.proofs.put_bytes.Goals as goal
+
+pub loop-i-init : goal.loop-i-init
+loop-i-init c = search bytes_begin
+
+pub loop-i-preserved : goal.loop-i-preserved
+loop-i-preserved c = search bytes_go_on
+
+pub returns : goal.returns
+returns c = search bytes_end

@@ -1,0 +1,9 @@
+use Rattle.answers.proofs.Lines.{printed_rising, printed_falling}
+use borrow.Author.Rules.{rules}
+use Rattle.answers.proofs.put_flag.Goals as goal
+
+pub returns-then-b-eq0 : goal.returns-then-b-eq0
+returns-then-b-eq0 c = search printed_rising
+
+pub returns : goal.returns
+returns c = search printed_falling

@@ -1,0 +1,10 @@
+use Rattle.answers.proofs.Placing.{Digits, digits_begin, digits_go_on, digits_end}
+use borrow.Author.Rules.{rules}
+use native.Mathlib.Omega.{arith}
+use Rattle.answers.proofs.put_number.Given as goal
+
+abbrev pub invariant-loop-k : goal.invariant-loop-k
+invariant-loop-k l = Digits l.initial.out l.at l.n l.out l.a l.p l.k
+
+abbrev pub decreases-loop-k : goal.decreases-loop-k
+decreases-loop-k l = l.k

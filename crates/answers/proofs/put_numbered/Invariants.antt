@@ -1,0 +1,11 @@
+use Rattle.answers.proofs.Lines.{Numbered, numbered_begin, numbered_go_on, numbered_end}
+use Prim.Native.Nat.{◌-◌}
+use borrow.Author.Rules.{rules}
+use native.Mathlib.Omega.{arith}
+use Rattle.answers.proofs.put_numbered.Given as goal
+
+abbrev pub invariant-loop-i : goal.invariant-loop-i
+invariant-loop-i l = Numbered l.initial.out l.at l.label l.ns l.n l.out l.a l.i
+
+abbrev pub decreases-loop-i : goal.decreases-loop-i
+decreases-loop-i l = l.n - l.i

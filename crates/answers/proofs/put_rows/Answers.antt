@@ -1,0 +1,14 @@
+use Rattle.answers.proofs.Lines.{Rows, rows_begin, rows_go_on, rows_end}
+use mathlib.Core.Path.{◌≡◌}
+use borrow.Author.Rules.{rules}
+use native.Mathlib.Omega.{arith}
+use Rattle.answers.proofs.put_rows.Goals as goal
+
+pub loop-left-init : goal.loop-left-init
+loop-left-init c = (search rows_begin, search rules)
+
+pub loop-left-preserved : goal.loop-left-preserved
+loop-left-preserved c = (search rows_go_on, search rules)
+
+pub returns : goal.returns
+returns c = search rows_end

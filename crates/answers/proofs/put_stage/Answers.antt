@@ -1,0 +1,6 @@
+use Rattle.answers.proofs.Lines.{printed_stage}
+use borrow.Author.Rules.{rules}
+use Rattle.answers.proofs.put_stage.Goals as goal
+
+pub returns : goal.returns
+returns c = search printed_stage

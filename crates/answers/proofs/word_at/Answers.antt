@@ -1,0 +1,6 @@
+use Rattle.answers.proofs.Lines.{word_past}
+use borrow.Author.Rules.{rules}
+use Rattle.answers.proofs.word_at.Goals as goal
+
+pub returns : goal.returns
+returns c = search word_past

@@ -1,0 +1,23 @@
+use Rattle.asked.proofs.Begins.{chosen_many, before_many, level_high, handed_many, lists_few}
+use lib.ListN.{length, get_or}
+use Prim.Native.Nat.{ℕ, ◌+◌, ◌-◌, ◌*◌, ◌≤◌, ◌<◌}
+use mathlib.Core.Path.{◌≡◌}
+use borrow.Author.Tests.{not-true, not-false}
+use borrow.Author.Rules.{rules}
+use native.Mathlib.Omega.{arith}
+use Rattle.asked.proofs.lists_fit.Goals as goal
+
+pub returns-then-chosen-gt16777215 : goal.returns-then-chosen-gt16777215
+returns-then-chosen-gt16777215 c = search chosen_many
+
+pub returns-then-before-gt16777215 : goal.returns-then-before-gt16777215
+returns-then-before-gt16777215 c = search before_many
+
+pub returns-then-level-gt16777215 : goal.returns-then-level-gt16777215
+returns-then-level-gt16777215 c = search level_high
+
+pub returns-then-handed-gt16777215 : goal.returns-then-handed-gt16777215
+returns-then-handed-gt16777215 c = search handed_many
+
+pub returns : goal.returns
+returns c = search lists_few

@@ -1,0 +1,13 @@
+use Rattle.clocks.specs.Walks.{number_if}
+use Rattle.roles.specs.Reading.{tables, kind_at}
+use native.Mathlib.Omega.{arith}
+use Prim.Native.Nat.{ℕ, ◌+◌, ◌-◌}
+use borrow.Author.Rules.{rules}
+use Rattle.clocks.proofs.Numbering.{Trying, trying_begins, trying_ends, trying_fails, trying_goes_on, span_below}
+use Rattle.clocks.proofs.numbers.list_number.Given as goal
+
+abbrev pub invariant-loop-i : goal.invariant-loop-i
+invariant-loop-i l = Trying (number_if (tables l.kinds l.starts l.list l.pins l.nets) (kind_at l.kind)) l.list l.at l.n l.i
+
+abbrev pub decreases-loop-i : goal.decreases-loop-i
+decreases-loop-i l = l.n - l.i

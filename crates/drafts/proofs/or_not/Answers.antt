@@ -1,0 +1,6 @@
+use Rattle.drafts.proofs.Steps.{or_made}
+use borrow.Author.Rules.{rules}
+use Rattle.drafts.proofs.or_not.Goals as goal
+
+pub returns : goal.returns
+returns c = search or_made

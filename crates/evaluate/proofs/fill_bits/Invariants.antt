@@ -1,0 +1,14 @@
+use Rattle.evaluate.proofs.Fillings.{fills, fills_end}
+use Rattle.evaluate.specs.Bits.{Filling}
+use borrow.Author.Rules.{rules}
+use native.Mathlib.Omega.{arith}
+use lib.ListN.{length, length-set}
+use mathlib.Core.Path.{◌≡◌}
+use Prim.Native.Nat.{◌≤◌, ◌-◌}
+use Rattle.evaluate.proofs.fill_bits.Given as goal
+
+abbrev pub invariant-loop-u : goal.invariant-loop-u
+invariant-loop-u l = Filling l.drivers l.sources l.bits l.u × (l.u ≤ length l.bits) × (length l.bits ≡ length l.initial.bits)
+
+abbrev pub decreases-loop-u : goal.decreases-loop-u
+decreases-loop-u l = length l.initial.bits - l.u

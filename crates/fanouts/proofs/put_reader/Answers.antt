@@ -1,0 +1,6 @@
+use Rattle.fanouts.proofs.Places.{put_one}
+use borrow.Author.Rules.{rules}
+use Rattle.fanouts.proofs.put_reader.Goals as goal
+
+pub returns : goal.returns
+returns c = search put_one

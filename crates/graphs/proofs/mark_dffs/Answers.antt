@@ -1,0 +1,20 @@
+use Rattle.marks.proofs.Picking.{Picking, always, pick_begins, each_goes_on, each_fails, each_ends}
+use borrow.Author.Tests.{not-true, not-false}
+use lib.ListN.{length, get_or}
+use Prim.Native.Nat.{ℕ, ◌-◌, ◌*◌, ◌+◌}
+use mathlib.Core.Path.{refl}
+use native.Mathlib.Omega.{arith}
+use borrow.Author.Rules.{rules}
+use Rattle.graphs.proofs.mark_dffs.Goals as goal
+
+pub loop-k-init : goal.loop-k-init
+loop-k-init c = search pick_begins
+
+pub returns-then-not-joined : goal.returns-then-not-joined
+returns-then-not-joined c = search (each_fails, refl, not-true)
+
+pub loop-k-preserved : goal.loop-k-preserved
+loop-k-preserved c = search (each_goes_on, not-false)
+
+pub returns : goal.returns
+returns c = search (each_ends, refl)

@@ -1,0 +1,21 @@
+use Rattle.graphs.proofs.Rams.{present, rams_go_on, rams_fail, rams_end}
+use Rattle.graphs.specs.Parts.{read_word}
+use Rattle.marks.proofs.Picking.{Picking, pick_begins}
+use borrow.Author.Tests.{not-true, not-false}
+use lib.ListN.{length, get_or}
+use Prim.Native.Nat.{ℕ, ◌-◌, ◌*◌, ◌+◌}
+use native.Mathlib.Omega.{arith}
+use borrow.Author.Rules.{rules}
+use Rattle.graphs.proofs.mark_rams.Goals as goal
+
+pub loop-i-init : goal.loop-i-init
+loop-i-init c = search pick_begins
+
+pub returns-then-not-joined : goal.returns-then-not-joined
+returns-then-not-joined c = search (rams_fail, not-true)
+
+pub loop-i-preserved : goal.loop-i-preserved
+loop-i-preserved c = search (rams_go_on, not-false)
+
+pub returns : goal.returns
+returns c = search rams_end

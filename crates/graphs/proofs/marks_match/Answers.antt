@@ -1,0 +1,20 @@
+use Rattle.graphs.specs.Parts.{mark_matches}
+use Rattle.laws.proofs.Scans.{Scanned, scan_begins, scan_goes_on, scan_fails, scan_passes, scan_stops, scan_ends}
+use borrow.Author.Tests.{not-true, not-false}
+use lib.ListN.{length, get_or}
+use Prim.Native.Nat.{ℕ, ◌-◌, ◌*◌, ◌+◌, ◌≤◌}
+use native.Mathlib.Omega.{arith}
+use borrow.Author.Rules.{rules}
+use Rattle.graphs.proofs.marks_match.Goals as goal
+
+pub loop-u-init : goal.loop-u-init
+loop-u-init c = search scan_begins
+
+pub returns-then-not-agree : goal.returns-then-not-agree
+returns-then-not-agree c = search (scan_fails, not-true)
+
+pub loop-u-preserved : goal.loop-u-preserved
+loop-u-preserved c = search (scan_goes_on, not-false)
+
+pub returns : goal.returns
+returns c = search scan_ends

@@ -1,0 +1,20 @@
+use Rattle.graphs.specs.Parts.{ram_row_fits}
+use Rattle.laws.proofs.Scans.{Scanned, scan_begins, scan_goes_on, scan_fails, scan_passes, scan_stops, scan_ends}
+use borrow.Author.Tests.{not-true, not-false}
+use lib.ListN.{length, get_or}
+use Prim.Native.Nat.{ℕ, ◌-◌, ◌*◌, ◌+◌, ◌≤◌}
+use native.Mathlib.Omega.{arith}
+use borrow.Author.Rules.{rules}
+use Rattle.graphs.proofs.ram_literals_fit.Goals as goal
+
+pub loop-k-init : goal.loop-k-init
+loop-k-init c = search scan_begins
+
+pub returns-then-not-fits : goal.returns-then-not-fits
+returns-then-not-fits c = search (scan_fails, not-true)
+
+pub loop-k-preserved : goal.loop-k-preserved
+loop-k-preserved c = search (scan_goes_on, not-false)
+
+pub returns : goal.returns
+returns c = search scan_ends

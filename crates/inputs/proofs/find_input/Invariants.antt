@@ -1,0 +1,11 @@
+use Rattle.inputs.proofs.Search.{Seeking, seek_begins, seek_finds, seek_goes_on, seek_ends}
+use Prim.Native.Nat.{◌-◌}
+use native.Mathlib.Omega.{arith}
+use borrow.Author.Rules.{rules}
+use Rattle.inputs.proofs.find_input.Given as goal
+
+abbrev pub invariant-loop-j : goal.invariant-loop-j
+invariant-loop-j l = Seeking l.c l.outputs l.dffs l.rams l.e l.i l.n l.seen l.j
+
+abbrev pub decreases-loop-j : goal.decreases-loop-j
+decreases-loop-j l = l.n - l.j

@@ -1,0 +1,20 @@
+use Rattle.joins.proofs.Joins.{JoiningTo, joins_begin, joins_known, joins_set, joins_inside, joins_go_on, joins_end}
+use lib.ListN.{length, get_or}
+use Prim.Native.Nat.{ℕ, ◌+◌, ◌-◌, ◌*◌, ◌≤◌, ◌<◌}
+use mathlib.Core.Path.{◌≡◌}
+use borrow.Author.Tests.{not-true, not-false}
+use borrow.Author.Rules.{rules}
+use native.Mathlib.Omega.{arith}
+use Rattle.joins.proofs.join_all.Goals as goal
+
+pub loop-i-init : goal.loop-i-init
+loop-i-init c = search joins_begin
+
+pub join_pin-n-requires : goal.join_pin-n-requires
+join_pin-n-requires c = record { known = search joins_known; u_lt_m = search joins_inside; set_in = search joins_set }
+
+pub loop-i-preserved : goal.loop-i-preserved
+loop-i-preserved c = search joins_go_on
+
+pub returns : goal.returns
+returns c = search joins_end

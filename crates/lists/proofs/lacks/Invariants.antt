@@ -1,0 +1,11 @@
+use Rattle.lists.proofs.Musts.{Lacking, lacking_begins, lacking_ends}
+use Rattle.lists.proofs.Musts.{entry_long, named_here, not_named}
+use Prim.Native.Nat.{◌-◌}
+use native.Mathlib.Omega.{arith}
+use Rattle.lists.proofs.lacks.Given as goal
+
+abbrev pub invariant-loop-i : goal.invariant-loop-i
+invariant-loop-i l = Lacking l.list l.pins l.at l.n l.name l.i
+
+abbrev pub decreases-loop-i : goal.decreases-loop-i
+decreases-loop-i l = l.n - l.i

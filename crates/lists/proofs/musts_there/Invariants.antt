@@ -1,0 +1,12 @@
+use Rattle.lists.proofs.Musts.{Asking, asking_begins, asking_more, musts_fails, musts_ends}
+use lib.ListN.{take, drop}
+use Prim.Native.Nat.{◌-◌}
+use native.Mathlib.Omega.{arith}
+use borrow.Author.Tests.{not-true, not-false}
+use Rattle.lists.proofs.musts_there.Given as goal
+
+abbrev pub invariant-loop-name : goal.invariant-loop-name
+invariant-loop-name l = Asking l.pins (take l.n (drop l.at l.list)) l.kind l.name
+
+abbrev pub decreases-loop-name : goal.decreases-loop-name
+decreases-loop-name l = 17 - l.name

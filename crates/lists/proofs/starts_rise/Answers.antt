@@ -1,0 +1,21 @@
+use Rattle.lists.proofs.Steps.{falls, rises}
+use Rattle.laws.proofs.Scans.{scan_passes, scan_stops}
+use Prim.Native.Nat.{◌+◌}
+use Rattle.laws.specs.Tests.{◌≤?◌}
+use Rattle.laws.proofs.Scans.{Scanned, scan_begins, scan_ends}
+use lib.ListN.{get_or}
+use Prim.Native.Nat.{ℕ, ◌-◌}
+use native.Mathlib.Omega.{arith}
+use Rattle.lists.proofs.starts_rise.Goals as goal
+
+pub loop-cell-init : goal.loop-cell-init
+loop-cell-init c = search scan_begins
+
+pub returns-then-starts-cell : goal.returns-then-starts-cell
+returns-then-starts-cell c = search (scan_stops, falls)
+
+pub loop-cell-preserved : goal.loop-cell-preserved
+loop-cell-preserved c = search (scan_passes, rises)
+
+pub returns : goal.returns
+returns c = search scan_ends

@@ -1,0 +1,6 @@
+use Rattle.literals.proofs.Settling.{operand_is}
+use borrow.Author.Rules.{rules}
+use Rattle.literals.proofs.operand.Goals as goal
+
+pub returns : goal.returns
+returns c = search operand_is

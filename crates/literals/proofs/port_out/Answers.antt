@@ -1,0 +1,6 @@
+use Rattle.literals.proofs.Settling.{port_left}
+use borrow.Author.Rules.{rules}
+use Rattle.literals.proofs.port_out.Goals as goal
+
+pub returns : goal.returns
+returns c = search port_left

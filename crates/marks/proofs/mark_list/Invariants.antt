@@ -1,0 +1,13 @@
+use Rattle.marks.proofs.Picking.{Picking, always, pick_begins, each_goes_on, each_fails, each_ends, places}
+use lib.ListN.{length, get_or}
+use Prim.Native.Nat.{ℕ, ◌-◌}
+use borrow.Author.Tests.{not-true, not-false}
+use native.Mathlib.Omega.{arith}
+use borrow.Author.Rules.{rules}
+use Rattle.marks.proofs.mark_list.Given as goal
+
+abbrev pub invariant-loop-i : goal.invariant-loop-i
+invariant-loop-i l = Picking (λ (k : ℕ). get_or l.list k 0) always (length l.list) l.initial.work l.work l.base l.limit l.i
+
+abbrev pub decreases-loop-i : goal.decreases-loop-i
+decreases-loop-i l = length l.list - l.i

@@ -1,0 +1,21 @@
+use Rattle.laws.proofs.Words.{word_below}
+use Rattle.members.proofs.Loops.{Inserting, insert_begins, insert_goes_on, insert_ends}
+use lib.ListN.{length, get_or}
+use Prim.Native.Nat.{ℕ, ◌+◌, ◌-◌, ◌*◌, ◌≤◌, ◌<◌}
+use mathlib.Core.Path.{◌≡◌}
+use borrow.Author.Tests.{not-true, not-false}
+use borrow.Author.Rules.{rules}
+use native.Mathlib.Omega.{arith}
+use Rattle.members.proofs.insert_all.Goals as goal
+
+pub loop-i-init : goal.loop-i-init
+loop-i-init c = search insert_begins
+
+pub insert-n-requires : goal.insert-n-requires
+insert-n-requires c = record { set_in = search; x_lt_cap = search word_below }
+
+pub loop-i-preserved : goal.loop-i-preserved
+loop-i-preserved c = search insert_goes_on
+
+pub returns : goal.returns
+returns c = search insert_ends

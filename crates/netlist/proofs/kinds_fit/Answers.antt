@@ -1,0 +1,20 @@
+use borrow.Author.Tests.{not-true, not-false}
+use Rattle.netlist.specs.Tables.{kind_fits}
+use lib.ListN.{length, get_or}
+use Prim.Native.Nat.{ℕ, ◌-◌}
+use native.Mathlib.Omega.{arith}
+use Rattle.laws.proofs.Scans.{Scanned, scan_begins, scan_goes_on, scan_fails, scan_ends}
+use borrow.Author.Rules.{rules}
+use Rattle.netlist.proofs.kinds_fit.Goals as goal
+
+pub loop-cell-init : goal.loop-cell-init
+loop-cell-init c = search scan_begins
+
+pub returns-then-not-fits : goal.returns-then-not-fits
+returns-then-not-fits c = search (scan_fails, not-true)
+
+pub loop-cell-preserved : goal.loop-cell-preserved
+loop-cell-preserved c = search (scan_goes_on, not-false)
+
+pub returns : goal.returns
+returns c = search scan_ends

@@ -1,0 +1,18 @@
+use Rattle.pins.specs.Words.{ranged}
+use Rattle.laws.proofs.Scans.{Scanned, scan_begins, scan_goes_on, scan_fails, scan_ends}
+use Prim.Native.Nat.{◌-◌}
+use native.Mathlib.Omega.{arith}
+use borrow.Author.Tests.{not-true, not-false}
+use Rattle.pins.proofs.pins_ranged.Goals as goal
+
+pub loop-p-init : goal.loop-p-init
+loop-p-init c = search scan_begins
+
+pub returns-then-not-fits : goal.returns-then-not-fits
+returns-then-not-fits c = search (scan_fails, not-true)
+
+pub loop-p-preserved : goal.loop-p-preserved
+loop-p-preserved c = search (scan_goes_on, not-false)
+
+pub returns : goal.returns
+returns c = search scan_ends

@@ -1,0 +1,6 @@
+use Rattle.roles.proofs.Roles.{and_told}
+use borrow.Author.Rules.{rules}
+use Rattle.roles.proofs.and_role.Goals as goal
+
+pub returns : goal.returns
+returns c = search and_told

@@ -1,0 +1,10 @@
+use native.Mathlib.Omega.{arith}
+use Prim.Native.Nat.{ℕ, ◌-◌}
+use Rattle.roles.proofs.Entries.{Searching, searching_begins, none_left, entry_held, entry_found, entry_passed}
+use Rattle.roles.proofs.entry_named.Given as goal
+
+abbrev pub invariant-loop-i : goal.invariant-loop-i
+invariant-loop-i l = Searching l.list l.pins l.at l.n l.a l.b l.k l.i l.left
+
+abbrev pub decreases-loop-i : goal.decreases-loop-i
+decreases-loop-i l = l.n - l.i

@@ -1,0 +1,10 @@
+use Rattle.sheets.proofs.Filling.{Copying, copy_begins, copy_goes_on, copy_ends}
+use native.Mathlib.Omega.{arith}
+use borrow.Author.Rules.{rules}
+use Rattle.sheets.proofs.copy_words.Given as goal
+
+abbrev pub invariant-loop-left : goal.invariant-loop-left
+invariant-loop-left l = Copying l.ns l.a l.k l.initial.out l.at l.out l.i l.p l.left
+
+abbrev pub decreases-loop-left : goal.decreases-loop-left
+decreases-loop-left l = l.left

@@ -1,0 +1,11 @@
+use Rattle.sheets.proofs.Filling.{Lists, lists_begin, lists_go_on, lists_end, lists_count}
+use Prim.Native.Nat.{◌-◌}
+use native.Mathlib.Omega.{arith}
+use borrow.Author.Rules.{rules}
+use Rattle.sheets.proofs.fill_list.Given as goal
+
+abbrev pub invariant-loop-i : goal.invariant-loop-i
+invariant-loop-i l = Lists l.ns l.ss l.n l.initial.out l.out l.i l.p
+
+abbrev pub decreases-loop-i : goal.decreases-loop-i
+decreases-loop-i l = l.n - l.i

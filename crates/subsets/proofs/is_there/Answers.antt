@@ -1,0 +1,17 @@
+use Rattle.subsets.proofs.Endpoints.{there_handed, there_past, there_taken}
+use lib.ListN.{length, get_or}
+use Prim.Native.Nat.{ℕ, ◌+◌, ◌-◌, ◌*◌, ◌≤◌, ◌<◌}
+use mathlib.Core.Path.{◌≡◌}
+use borrow.Author.Tests.{not-true, not-false}
+use native.Mathlib.Omega.{arith}
+use borrow.Author.Rules.{rules}
+use Rattle.subsets.proofs.is_there.Goals as goal
+
+pub returns-then-i-handed : goal.returns-then-i-handed
+returns-then-i-handed c = search there_handed
+
+pub returns-then-taken-k : goal.returns-then-taken-k
+returns-then-taken-k c = search there_past
+
+pub returns : goal.returns
+returns c = search there_taken

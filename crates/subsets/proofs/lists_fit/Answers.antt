@@ -1,0 +1,23 @@
+use Rattle.subsets.proofs.Places.{handed_many, taken_many, places_many, room_many, lists_few}
+use lib.ListN.{length, get_or}
+use Prim.Native.Nat.{ℕ, ◌+◌, ◌-◌, ◌*◌, ◌≤◌, ◌<◌}
+use mathlib.Core.Path.{◌≡◌}
+use borrow.Author.Tests.{not-true, not-false}
+use borrow.Author.Rules.{rules}
+use native.Mathlib.Omega.{arith}
+use Rattle.subsets.proofs.lists_fit.Goals as goal
+
+pub returns-then-handed-gt16777215 : goal.returns-then-handed-gt16777215
+returns-then-handed-gt16777215 c = search handed_many
+
+pub returns-then-taken-gt16777215 : goal.returns-then-taken-gt16777215
+returns-then-taken-gt16777215 c = search taken_many
+
+pub returns-then-is-gt16777215 : goal.returns-then-is-gt16777215
+returns-then-is-gt16777215 c = search places_many
+
+pub returns-then-handed_room-gt16777215 : goal.returns-then-handed_room-gt16777215
+returns-then-handed_room-gt16777215 c = search room_many
+
+pub returns : goal.returns
+returns c = search lists_few

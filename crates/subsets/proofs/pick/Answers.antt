@@ -1,0 +1,23 @@
+use Rattle.subsets.proofs.Places.{Picked, pick_begins, pick_least, pick_inside, pick_goes_on, pick_ends}
+use lib.ListN.{length, get_or}
+use Prim.Native.Nat.{ℕ, ◌+◌, ◌-◌, ◌*◌, ◌≤◌, ◌<◌}
+use mathlib.Core.Path.{◌≡◌}
+use borrow.Author.Tests.{not-true, not-false}
+use borrow.Author.Rules.{rules}
+use native.Mathlib.Omega.{arith}
+use Rattle.subsets.proofs.pick.Goals as goal
+
+pub loop-j-init : goal.loop-j-init
+loop-j-init c = search pick_begins
+
+pub overflow_sub-i : goal.overflow_sub-i
+overflow_sub-i c = search pick_least
+
+pub word-requires : goal.word-requires
+word-requires c = search pick_inside
+
+pub loop-j-preserved : goal.loop-j-preserved
+loop-j-preserved c = search pick_goes_on
+
+pub returns : goal.returns
+returns c = search pick_ends

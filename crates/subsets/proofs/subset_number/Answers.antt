@@ -1,0 +1,17 @@
+use Rattle.subsets.proofs.Places.{subset_1, handed_few, taken_few, subset_later}
+use lib.ListN.{length, get_or}
+use Prim.Native.Nat.{ℕ, ◌+◌, ◌-◌, ◌*◌, ◌≤◌, ◌<◌}
+use mathlib.Core.Path.{◌≡◌}
+use borrow.Author.Tests.{not-true, not-false}
+use native.Mathlib.Omega.{arith}
+use borrow.Author.Rules.{rules}
+use Rattle.subsets.proofs.subset_number.Goals as goal
+
+pub returns-then-not-lists_fit : goal.returns-then-not-lists_fit
+returns-then-not-lists_fit c = search (subset_1, not-true)
+
+pub places_number-requires : goal.places_number-requires
+places_number-requires c = record { n_value = search; handed_bound = search (handed_few, not-false); taken_bound = search (taken_few, not-false) }
+
+pub returns : goal.returns
+returns c = search (subset_later, not-false)

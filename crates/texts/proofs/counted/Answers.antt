@@ -1,0 +1,6 @@
+use Rattle.texts.proofs.Records.{counted_is}
+use borrow.Author.Rules.{rules}
+use Rattle.texts.proofs.counted.Goals as goal
+
+pub returns : goal.returns
+returns c = search counted_is

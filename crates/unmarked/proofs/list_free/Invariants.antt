@@ -1,0 +1,14 @@
+use Rattle.unmarked.specs.Free.{free_if}
+use Rattle.roles.specs.Reading.{tables, kind_at}
+use native.Mathlib.Omega.{arith}
+use Prim.Native.Nat.{ℕ, ◌+◌, ◌-◌}
+use borrow.Author.Tests.{not-true, not-false}
+use borrow.Author.Rules.{rules}
+use Rattle.unmarked.proofs.Freeing.{Trying, trying_begins, trying_ends, trying_fails, trying_goes_on, entry_below}
+use Rattle.unmarked.proofs.list_free.Given as goal
+
+abbrev pub invariant-loop-i : goal.invariant-loop-i
+invariant-loop-i l = Trying (free_if (tables l.kinds l.starts l.list l.pins l.nets) (kind_at l.kind)) l.list l.at l.n l.i
+
+abbrev pub decreases-loop-i : goal.decreases-loop-i
+decreases-loop-i l = l.n - l.i

@@ -1,0 +1,9 @@
+use Rattle.walk.proofs.Fits.{operand_low, operand_high}
+use borrow.Author.Rules.{rules}
+use Rattle.walk.proofs.fit.operand_fits.Goals as goal
+
+pub returns-then-p-lt1 : goal.returns-then-p-lt1
+returns-then-p-lt1 c = search operand_low
+
+pub returns : goal.returns
+returns c = search operand_high

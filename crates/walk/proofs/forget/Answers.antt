@@ -1,0 +1,16 @@
+use Rattle.walk.proofs.Forgets.{Forgetting, forget_begins, forget_goes_on, forget_ends, pin_at_lem, place_at}
+use borrow.Author.Rules.{rules}
+use native.Mathlib.Omega.{arith}
+use lib.ListN.{length, length-set}
+use mathlib.Core.Path.{◌≡◌}
+use Prim.Native.Nat.{◌≤◌, ◌-◌}
+use Rattle.walk.proofs.forget.Goals as goal
+
+pub loop-i-init : goal.loop-i-init
+loop-i-init c = (search forget_begins, search rules, search rules)
+
+pub loop-i-preserved : goal.loop-i-preserved
+loop-i-preserved c = (search forget_goes_on, omega arith, simp length-set (omega arith))
+
+pub returns : goal.returns
+returns c = search forget_ends

@@ -1,0 +1,12 @@
+-- `words::all_zero` meets its contract: the first i words are 0.
+use Prim.Native.Nat.{◌≤◌, ◌-◌}
+use native.Mathlib.Omega.{arith}
+use lib.ListN.{length}
+use Rattle.words.proofs.Tables.{Unused, unused_begins, unused_goes_on, unused_ends, unused_fails}
+use Rattle.words.proofs.all_zero.Given as goal
+
+abbrev pub invariant-loop-i : goal.invariant-loop-i
+invariant-loop-i l = Unused l.s l.i × (l.i ≤ length l.s)
+
+abbrev pub decreases-loop-i : goal.decreases-loop-i
+decreases-loop-i l = length l.s - l.i

@@ -1,0 +1,15 @@
+-- `words::copy` meets its contract: after i turns i words are copied.
+use Prim.Native.Nat.{◌≤◌, ◌-◌}
+use native.Mathlib.Omega.{arith}
+use borrow.Author.Rules.{rules}
+use Rattle.words.proofs.Tables.{Copying, copy_begins, copy_goes_on, copy_ends}
+use Rattle.words.proofs.copy.Goals as goal
+
+pub loop-i-init : goal.loop-i-init
+loop-i-init c = (search copy_begins, search rules)
+
+pub loop-i-preserved : goal.loop-i-preserved
+loop-i-preserved c = (search copy_goes_on, omega arith)
+
+pub returns : goal.returns
+returns c = search copy_ends

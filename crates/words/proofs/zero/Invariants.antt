@@ -1,0 +1,15 @@
+-- `words::zero` meets its contract: after i turns the first i words are 0.
+use Prim.Native.Nat.{◌≤◌, ◌-◌}
+use mathlib.Core.Path.{◌≡◌}
+use native.Mathlib.Omega.{arith}
+use borrow.Author.Rules.{rules}
+use mathlib.Core.List.{◌++◌}
+use lib.ListN.{length, drop, replicate, length-set}
+use Rattle.laws.proofs.Words.{filling_goes_on, filling_ends}
+use Rattle.words.proofs.zero.Given as goal
+
+abbrev pub invariant-loop-i : goal.invariant-loop-i
+invariant-loop-i l = (l.s ≡ replicate l.i 0 ++ drop l.i l.initial.s) × (l.i ≤ length l.initial.s) × (length l.s ≡ length l.initial.s)
+
+abbrev pub decreases-loop-i : goal.decreases-loop-i
+decreases-loop-i l = length l.initial.s - l.i
