@@ -1,4 +1,6 @@
 // The activity of a clock pin in step 3: its flag, and an AND with E for each CKLNQD on the way.
+#![tactic(auto)]
+
 ghost use Rattle.std.specs.Prelude.{◌≡◌, true, ◌+◌, ◌*◌, ◌<◌, ◌≤◌, length, get_or};
 ghost use Rattle.rules.specs.Graph.{and_of};
 ghost use Rattle.rules.specs.Tables.{edge_word};

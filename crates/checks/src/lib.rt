@@ -1,5 +1,7 @@
 // The tests of a netlist in document 01's order: 1 to 9, and 1 to 10, as calls on any tables; and the parts that building asks
 // for. With m pins the visits' marks lie from 0, the stack and then the markers from m, the events from 2 * m.
+#![tactic(auto)]
+
 ghost use Rattle.std.specs.Prelude.{◌≡◌, ◌+◌, ◌*◌, ◌<◌, ◌≤◌, length};
 ghost use Rattle.laws.specs.Words.{zeros};
 ghost use Rattle.rules.specs.Answers.{check_netlist_number, check_all_number};

@@ -1,5 +1,7 @@
 // Step 1 of building: each new (port, edge) at which a clock walk ends makes a pin, a clock flag; a CKLNQD is a buffer here.
 // By port and edge the work words keep the flag's pin, so that a known one is found at once.
+#![tactic(auto)]
+
 ghost use Rattle.std.specs.Prelude.{◌≡◌, ℕ, ◌+◌, ◌-◌, ◌*◌, ◌<◌, ◌≤◌, length, get_or, take, drop};
 ghost use Rattle.laws.specs.Lists.{over};
 ghost use Rattle.rules.specs.Build.{flag_for, step1};

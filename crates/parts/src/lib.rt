@@ -1,4 +1,6 @@
 // A split asked alone.
+#![tactic(auto)]
+
 ghost use Rattle.std.specs.Prelude.{◌≡◌, length};
 ghost use Rattle.parts.specs.Answer.{Split};
 

@@ -1,4 +1,6 @@
 // One stage: a split of the endpoints left, its row, and the words made ready for the next one.
+#![tactic(auto)]
+
 ghost use Rattle.std.specs.Prelude.{◌≡◌, ℕ, ◌+◌, ◌*◌, ◌<◌, ◌≤◌, length};
 ghost use Rattle.turns.specs.State.{Turn, Turned};
 

@@ -20,7 +20,7 @@ pub returns-then-not-set_stops : goal.returns-then-not-set_stops
 returns-then-not-set_stops c = search (begin_stops, not-true, not-false)
 
 pub insert_all-n-requires : goal.insert_all-n-requires
-insert_all-n-requires c = record { set_in = begin_set c.args.work.now c.args.m c.args.ends c.requires c.args.now _ _ c.set_stops.ensures; all_below = chosen_below c.args.work.now c.args.m c.args.ends c.requires c.args.chosen.now c.args.now _ c.all_below.ensures c.if-not-all_below.false }
+insert_all-n-requires c = record { set_in = begin_set c.args.work.now c.args.m c.args.ends c.requires c.args.before.now _ _ c.set_stops.ensures; all_below = chosen_below c.args.work.now c.args.m c.args.ends c.requires c.args.chosen.now c.args.before.now _ c.all_below.ensures c.if-not-all_below.false }
 
 pub returns : goal.returns
 returns c = search (begin_done, not-false)

@@ -1,0 +1,6 @@
+use Rattle.activity.proofs.Tracing.{enable_place, enable_told}
+use borrow.Author.Rules.{rules}
+use Rattle.activity.proofs.through.Goals as goal
+
+pub returns : goal.returns
+returns c = search (enable_told, c.requires.going, c.requires.clocked, c.requires.i_in_bounds)

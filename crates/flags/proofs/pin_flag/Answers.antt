@@ -1,0 +1,13 @@
+use Rattle.flags.proofs.Passing.{pin_idle, pin_walked, walk-within}
+use borrow.Author.Tests.{not-true, not-false}
+use borrow.Author.Rules.{rules}
+use Rattle.flags.proofs.pin_flag.Goals as goal
+
+pub returns-then-not-clock : goal.returns-then-not-clock
+returns-then-not-clock c = search (pin_idle, not-true)
+
+pub end_flag-requires : goal.end_flag-requires
+end_flag-requires c = record { flagging = search rules; port_within = search walk-within }
+
+pub returns : goal.returns
+returns c = search (pin_walked, not-false)
