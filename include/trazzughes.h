@@ -8,7 +8,7 @@
  *   no other. Tables that are const here are only read, and may overlap each other.
  *
  * Calls allocate nothing, print nothing, keep nothing between them, and need little stack. Different threads may call
- * at the same time on results and work of their own. Link libcapi.a, which `rt staticlib capi` makes.
+ * at the same time on results and work of their own. Link libcapi.a, which `rt lib` makes in crates/capi.
  *
  * ANSWERS. Each call returns 0, or the number of its refusal. Of the refusals that apply, the first in the order of
  * this list is given:

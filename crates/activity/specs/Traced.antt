@@ -13,6 +13,7 @@ use Rattle.builds.proofs.Sizes.{Flagged}
 use Rattle.roles.specs.declared.Entry.{Entry}
 use Rattle.roles.specs.declared.Entry.TheVariants.{Pin, Absent}
 use Rattle.roles.specs.Reading.{Fits}
+use Rattle.clocks.specs.Walks.{enables}
 use Rattle.clocks.specs.declared.WalkEnd.{WalkEnd}
 use Rattle.clocks.specs.declared.WalkEnd.TheVariants.{Still, Root, Strange, Far}
 use Rattle.drafts.specs.Table.{Table, drafted}
@@ -42,6 +43,10 @@ pub record Clocked (n : Netlist) (p : ℕ) : Type 0 where
   pub inside : p < size n
   pub found : walk_number (walk n p) ≡ 0
   pub flagged : Flagged (step1 n) (walk n p)
+
+-- how many E pins the walk of a clock pin crosses; a record, so that no check computes the walk
+pub record IsGateCount (n : Netlist) (p gates : ℕ) : Type 0 where
+  pub is : gates ≡ length (enables (walk n p))
 
 -- ---- where a walk ends: the flag's word, by port and edge, and its literal
 abbrev pub end_lit : ℕ → List ℕ → WalkEnd → ℕ

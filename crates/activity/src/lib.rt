@@ -8,7 +8,7 @@ ghost use Rattle.rules.specs.Build.{is_clock, walk, trace};
 ghost use Rattle.roles.specs.Reading.{tables, cell_pins, either_in, entry_of, kind_at};
 ghost use Rattle.clocks.specs.Walks.{enables};
 ghost use Rattle.drafts.specs.Table.{drafted, Extends};
-ghost use Rattle.activity.specs.Traced.{Going, Clocked, lits, end_lit, EndKnown, gates_over, start_at, entry_traced};
+ghost use Rattle.activity.specs.Traced.{IsGateCount, Going, Clocked, lits, end_lit, EndKnown, gates_over, start_at, entry_traced};
 
 use clocks::{WalkEnd, trace_clock_pin};
 use drafts::{Added, and_of};
@@ -100,7 +100,7 @@ fn through_all(
 ) -> Added
     requires going { Going (tables kinds.now starts.now list.now pins.now nets.now) at work.old drivers.old begin.tally }
     requires clocked { Clocked (tables kinds.now starts.now list.now pins.now nets.now) p }
-    requires gates_value { gates ≡ length (enables (walk (tables kinds.now starts.now list.now pins.now nets.now) p)) }
+    requires gates_value { IsGateCount (tables kinds.now starts.now list.now pins.now nets.now) p gates }
     requires fits_value { begin.fits ≡ true }
     ensures { Extends at (gates_over (lits (tables kinds.now starts.now list.now pins.now nets.now)) (start_at (drafted drivers.old begin.tally) begin.lit.word) (enables (walk (tables kinds.now starts.now list.now pins.now nets.now) p))) work.old drivers.old begin.tally work.new drivers.new result }
 {

@@ -1,4 +1,6 @@
 // Building, from work words that hold the events of the visits and nothing else: steps 1, 2 and 3.
+#![tactic(auto)]
+
 ghost use Rattle.std.specs.Prelude.{◌≡◌};
 ghost use Rattle.rules.specs.Build.{step2};
 ghost use Rattle.roles.specs.Reading.{tables};

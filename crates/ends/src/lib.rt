@@ -1,4 +1,6 @@
 // Step 3 of building: cells upward, each flip-flop and RAM traces its clocks, makes its ANDs, and has its record or row written.
+#![tactic(auto)]
+
 ghost use Rattle.std.specs.Prelude.{◌≡◌, true, ◌+◌, ◌*◌, ◌<◌, ◌≤◌, length};
 ghost use Rattle.laws.specs.Words.{zeros};
 ghost use Rattle.rules.specs.Build.{step2};

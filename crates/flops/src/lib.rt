@@ -1,4 +1,6 @@
 // A flip-flop in step 3: its clock traced, the four ANDs of its record, and the record in its table.
+#![tactic(auto)]
+
 ghost use Rattle.std.specs.Prelude.{◌≡◌, true, false, [], ◌∷◌, ◌+◌, ◌*◌, ◌<◌, ◌≤◌, length, get_or};
 ghost use Rattle.laws.specs.Lists.{first_or};
 ghost use Rattle.laws.proofs.Indices.{place};

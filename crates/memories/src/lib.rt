@@ -1,4 +1,6 @@
 // A RAM in step 3: its clocks traced in list order, the 32 ANDs of its write enables, and its row in the table.
+#![tactic(auto)]
+
 ghost use Rattle.std.specs.Prelude.{◌≡◌, true, false, ◌+◌, ◌*◌, ◌<◌, ◌≤◌, length, get_or, set};
 ghost use Rattle.rules.specs.Netlist.{ram};
 ghost use Rattle.rules.specs.Graph.{and_of};

@@ -1,4 +1,6 @@
 // The core of build_staged_aigs: what the graph check leaves to test, and the stages.
+#![tactic(auto)]
+
 ghost use Rattle.std.specs.Prelude.{◌≡◌, ℕ, ◌+◌, ◌*◌, ◌<◌, ◌≤◌, length};
 ghost use Rattle.rules.specs.Refusals.{rising};
 ghost use Rattle.plans.specs.Answer.{levels_fit, Plans, Staged1};

@@ -1,5 +1,7 @@
 // What comes before building: the tests 3 to 10, and the work words made ready, with the events of the visits and nothing
 // else in them.
+#![tactic(auto)]
+
 ghost use Rattle.std.specs.Prelude.{◌≡◌};
 ghost use Rattle.roles.specs.Reading.{tables};
 ghost use Rattle.checks.specs.Ready.{Asked};

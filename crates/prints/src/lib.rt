@@ -3,9 +3,13 @@
 
 use std::io::{self, Write};
 
+fn print_word(out: &mut impl Write, w: u32) -> io::Result<()> {
+    write!(out, " {w}")
+}
+
 fn print_each(out: &mut impl Write, ws: &[u32]) -> io::Result<()> {
     for w in ws {
-        write!(out, " {w}")?;
+        print_word(out, *w)?;
     }
     Ok(())
 }

@@ -1,10 +1,9 @@
 -- What each call answers and leaves: its number, 0 for success, by the tests in document 01's order; its result tables; its answer. After any
 -- call all work words are 0. A list of single words that is lent for a result has its length as its room.
-use Rattle.std.specs.Prelude.{Bool, true, false, ◌&&◌, List, [], ◌∷◌, map, ℕ, zero, suc, ◌+◌, ◌-◌, ◌*◌, length, get_or}
-use Rattle.std.proofs.Math.Option.{Option, none, some}
+use Rattle.std.specs.Prelude.{Bool, true, ◌&&◌, List, [], ◌∷◌, map, ℕ, zero, suc, ◌+◌, ◌-◌, ◌*◌, length, get_or}
+use Rattle.std.proofs.Math.Option.{some}
 use Rattle.laws.specs.Tests.{if◌then◌else◌, ◌==◌, ◌<?◌, ◌≤?◌, one, or_else, refuse}
 use Rattle.laws.specs.Lists.{every, flat, upto}
-use Rattle.rules.specs.declared.Driver.{Driver}
 use Rattle.rules.specs.declared.Endpoint.{Endpoint}
 use Rattle.rules.specs.declared.Tally.{Tally}
 use Rattle.rules.specs.declared.NetlistCounts.{NetlistCounts}
@@ -27,7 +26,7 @@ use Rattle.rules.specs.declared.Read.TheVariants.{Pin, Refused as ReadRefused}
 use Rattle.rules.specs.Netlist.{Netlist}
 use Rattle.rules.specs.Graph.{Graph}
 use Rattle.rules.specs.Build.{graph_of, literals_of, fanouts, fanout_starts, tally, gate_count}
-use Rattle.rules.specs.Stages.{endpoint_count, endpoint_by, endpoint_of, inputs, inputs_of, reads_of, traversal, split, stages, Stage, Row, full_stage, stage_endpoint, subset}
+use Rattle.rules.specs.Stages.{inputs, inputs_of, traversal, split, stages, Stage, Row, subset}
 use Rattle.rules.specs.Bounds.{max_graph_pins, max_fanouts, max_list, max_level, max_splits, max_stages, build_work, stage_work, netlist_within, graph_within, rooms_within}
 use Rattle.rules.specs.Tables.{driver_words, record_words, ram_words, GraphWords, drivers_in, graph_in, row_words, all_handed, all_taken, held}
 use Rattle.rules.specs.Refusals.{check_number, netlist_number, room_fits, drivers_fit, records_fit, rising, something_read, below, no_repeat, handed_first}

@@ -1,5 +1,5 @@
 -- Document 01, "Numbers that bound it".
-use Rattle.std.specs.Prelude.{Bool, ◌&&◌, List, ℕ, ◌+◌, ◌*◌}
+use Rattle.std.specs.Prelude.{Bool, ◌&&◌, ℕ, ◌+◌, ◌*◌}
 use Rattle.laws.specs.Tests.{◌≤?◌}
 use Rattle.rules.specs.declared.NetlistCounts.{NetlistCounts}
 use Rattle.rules.specs.declared.GraphCounts.{GraphCounts}

@@ -5,41 +5,7 @@ use Rattle.laws.specs.Tests.{xor}
 use Rattle.laws.specs.Lists.{count, first_or}
 use Rattle.rules.specs.declared.Edge.{Edge}
 use Rattle.rules.specs.declared.Edge.TheVariants.{Rising, Falling}
-use Rattle.rules.specs.Netlist.{
-  Netlist,
-  cells,
-  size,
-  cell_of,
-  is_out,
-  net_of,
-  net_word,
-  kind_of,
-  and2,
-  inv,
-  buf,
-  dff,
-  clock_gate,
-  ram,
-  named,
-  named_bit,
-  pin_named,
-  #A,
-  #B,
-  #OUT,
-  #D,
-  #CLK,
-  #S,
-  #R,
-  #CP,
-  #E,
-  #R_ADDR,
-  #R_CLK,
-  #R_DATA,
-  #W_ADDR,
-  #W_CLK,
-  #W_DATA,
-  #W_EN,
-}
+use Rattle.rules.specs.Netlist.{Netlist, cells, size, cell_of, is_out, net_of, net_word, kind_of, and2, inv, buf, dff, clock_gate, ram, named, named_bit, pin_named, #A, #B, #OUT, #D, #S, #R, #CP, #E, #R_DATA, #W_EN}
 
 -- the bits that come from outside: of each input port, of each clock flag (port and edge), of each flip-flop cell, of each RAM cell's read data
 pub record Env : Type 0 where

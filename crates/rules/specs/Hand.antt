@@ -1,5 +1,5 @@
 -- Document 01, "Numbers to check by hand" and "Errors that look reasonable": one table of questions with the answers that 01 writes.
-use Rattle.std.specs.Prelude.{Bool, true, false, List, [], ◌∷◌, ◌++◌, map, ℕ, zero, suc, ◌+◌, ◌-◌, ◌*◌, length, replicate}
+use Rattle.std.specs.Prelude.{Bool, true, false, List, [], ◌∷◌, ◌++◌, map, ℕ, zero, suc, ◌+◌, ◌*◌, replicate}
 use Rattle.std.proofs.Math.Option.{Option, none, some}
 use Rattle.laws.specs.Lists.{flat, upto}
 use Rattle.rules.specs.declared.Driver.{Driver}

@@ -1,6 +1,6 @@
 -- Document 01, "What is turned away", by number. A test that passes means that the number is not given. 1, 2 and 11 speak of counts and
 -- lent tables and are said for each call in `Answers`.
-use Rattle.std.specs.Prelude.{◌≡◌, Bool, true, false, not, ◌&&◌, ◌||◌, List, [], ◌∷◌, ◌++◌, map, ℕ, zero, suc, ◌+◌, ◌-◌, ◌*◌, ◌<◌, length}
+use Rattle.std.specs.Prelude.{◌≡◌, Bool, true, false, not, ◌&&◌, ◌||◌, List, [], ◌∷◌, ◌++◌, map, ℕ, zero, suc, ◌+◌, ◌*◌, ◌<◌, length}
 use Rattle.std.proofs.Math.Option.{Option, none, some}
 use Rattle.laws.specs.Tests.{if◌then◌else◌, ◌==◌, ◌<?◌, ◌≤?◌, one, or_else, refuse}
 use Rattle.laws.specs.Lists.{count, keep, every, any, flat, upto}
@@ -42,7 +42,7 @@ use Rattle.rules.specs.Netlist.{
   #W_DATA,
   #W_EN,
 }
-use Rattle.rules.specs.Cells.{Carried, Logic}
+use Rattle.rules.specs.Cells.{Logic}
 use Rattle.rules.specs.Graph.{pin_of, Graph, RamRow, pin_count}
 use Rattle.rules.specs.Build.{
   Role,

@@ -1,5 +1,5 @@
 -- How a graph and its stages lie in lent words, and what a lent table holds after a call.
-use Rattle.std.specs.Prelude.{Bool, true, false, ◌&&◌, List, [], ◌∷◌, ◌++◌, map, ℕ, zero, suc, ◌+◌, ◌-◌, ◌*◌, length, get_or}
+use Rattle.std.specs.Prelude.{List, [], ◌∷◌, ◌++◌, map, ℕ, zero, suc, ◌+◌, ◌-◌, ◌*◌, length, get_or}
 use Rattle.std.proofs.Math.Option.{Option, none, some}
 use Rattle.laws.specs.Tests.{if◌then◌else◌, ◌==◌}
 use Rattle.laws.specs.Lists.{flat, upto}
@@ -13,7 +13,7 @@ use Rattle.rules.specs.declared.Decoded.TheVariants.{Is, Bad}
 use Rattle.rules.specs.declared.Record.{Record}
 use Rattle.rules.specs.declared.GraphCounts.{GraphCounts}
 use Rattle.rules.specs.Graph.{gate, RamRow, Graph}
-use Rattle.rules.specs.Stages.{Stage, Row}
+use Rattle.rules.specs.Stages.{Row}
 
 -- ---- a driver in three words: tag, a, b
 abbrev pub edge_word : Edge → ℕ

@@ -1,4 +1,6 @@
 // The stages of a graph that was checked, one after the other.
+#![tactic(auto)]
+
 ghost use Rattle.std.specs.Prelude.{◌≡◌, ℕ, ◌+◌, ◌*◌, ◌<◌, ◌≤◌, length, get_or};
 ghost use Rattle.stages.specs.State.{LevelAt, Start, Planned};
 

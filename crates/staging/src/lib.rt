@@ -1,4 +1,6 @@
 // The stages of a graph.
+#![tactic(auto)]
+
 ghost use Rattle.std.specs.Prelude.{◌≡◌, length};
 ghost use Rattle.staging.specs.Answer.{AllStages};
 

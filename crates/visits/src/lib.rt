@@ -1,5 +1,7 @@
 // Step 2 of building: the visits of the netlist pins, event by event. A flip-flop output makes its own pin when it is
 // entered; everything else is made when a pin is left, once what it visits is there.
+#![tactic(auto)]
+
 ghost use Rattle.std.specs.Prelude.{◌≡◌, ℕ, ◌+◌, ◌*◌, ◌<◌, ◌≤◌, length, get_or};
 ghost use Rattle.laws.specs.Lists.{first_or};
 ghost use Rattle.laws.specs.Search.{enter, leave};

@@ -5,8 +5,8 @@ use Rattle.activity.proofs.activity.Goals as goal
 pub end_lit-lit-requires : goal.end_lit-lit-requires
 end_lit-lit-requires c = record { m_in_bounds = search rules; end_known = search end_known }
 
-pub through_all-requires : goal.through_all-requires
-through_all-requires c = record { going = search rules; clocked = search rules; gates_value = search (gates_told, c.requires.going, c.requires.clocked); fits_value = search rules }
+pub through_all-requires-clause-gates_value : goal.through_all-requires-clause-gates_value
+through_all-requires-clause-gates_value c = record { is = search (gates_told, c.requires.going, c.requires.clocked) }
 
 pub returns : goal.returns
 returns c = search (activity_told, c.requires.going, c.requires.clocked)

@@ -4,3 +4,6 @@ use Rattle.activity.proofs.through.Goals as goal
 
 pub returns : goal.returns
 returns c = search (enable_told, c.requires.going, c.requires.clocked, c.requires.i_in_bounds)
+
+pub bounds-work-place : goal.bounds-work-place
+bounds-work-place c = search enable_place

@@ -1,4 +1,3 @@
-use borrow.Author.Rules.{rules}
 use Rattle.rules.proofs.Literals.{opposite_even, opposite_odd}
 use Rattle.rules.proofs.Literal.opposite.Goals as goal
 

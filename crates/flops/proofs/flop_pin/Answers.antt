@@ -1,0 +1,9 @@
+use Rattle.flops.proofs.Flopping.{pin_place, pin_told}
+use borrow.Author.Rules.{rules}
+use Rattle.flops.proofs.flop_pin.Goals as goal
+
+pub word-requires : goal.word-requires
+word-requires c = search pin_place
+
+pub returns : goal.returns
+returns c = search pin_told

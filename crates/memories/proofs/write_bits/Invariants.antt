@@ -1,0 +1,14 @@
+use Prim.Native.Nat.{◌-◌}
+use lib.ListN.{length}
+use borrow.Author.Rules.{rules}
+use mathlib.Core.Path.{◌≡◌, refl}
+use native.Mathlib.Omega.{arith}
+use borrow.Author.Tests.{not-true, not-false}
+use Rattle.memories.proofs.Remembering.{Enabling, enabling_begins, enabling_ends, enabling_goes_on, enabling_fails}
+use Rattle.memories.proofs.write_bits.Given as goal
+
+abbrev pub invariant-loop-i : goal.invariant-loop-i
+invariant-loop-i l = Enabling l.at l.initial.work l.initial.drivers l.initial.step.tally l.from l.w.word l.initial.rams l.work l.drivers l.rams l.i l.step × (length l.work ≡ length l.initial.work) × (length l.drivers ≡ length l.initial.drivers) × (length l.rams ≡ length l.initial.rams)
+
+abbrev pub decreases-loop-i : goal.decreases-loop-i
+decreases-loop-i l = 32 - l.i

@@ -1,0 +1,11 @@
+use Rattle.plans.proofs.Levels.{RisingTo, rise_begins, rise_fails, rise_goes_on, rise_ends}
+use lib.ListN.{length}
+use Prim.Native.Nat.{◌-◌}
+use native.Mathlib.Omega.{arith}
+use Rattle.plans.proofs.levels_rise.Given as goal
+
+abbrev pub invariant-loop-i : goal.invariant-loop-i
+invariant-loop-i l = RisingTo l.splits l.i
+
+abbrev pub decreases-loop-i : goal.decreases-loop-i
+decreases-loop-i l = length l.splits - l.i

@@ -1,0 +1,12 @@
+use Rattle.visits.proofs.Runs.{event_in, leaves_next, enters_next}
+use borrow.Author.Rules.{rules}
+use Rattle.visits.proofs.act.Goals as goal
+
+pub word-event-requires : goal.word-event-requires
+word-event-requires c = search event_in
+
+pub leave_pin-requires : goal.leave_pin-requires
+leave_pin-requires c = search leaves_next
+
+pub enter_pin-requires : goal.enter_pin-requires
+enter_pin-requires c = search enters_next
