@@ -1,4 +1,6 @@
 // Building: the graph of a netlist, on lent tables. Any netlist, however broken, ends in an answer.
+#![tactic(auto)]
+
 ghost use Rattle.std.specs.Prelude.{◌≡◌, length};
 ghost use Rattle.roles.specs.Reading.{tables};
 ghost use Rattle.aig.specs.Building.{lent, lengths_of, blank, Unfinished, Finished, Waiting, BuiltAs, Answered};

@@ -9,7 +9,7 @@ use netlist::{netlist_long, netlist_within};
 use rules::{NetlistCounts, Rooms};
 
 // How long the tables are that a caller lends to building.
-#[derive(Drop)]
+#[derive(Clone, Copy)]
 pub struct Sizes {
     pub kinds: usize,
     pub starts: usize,
