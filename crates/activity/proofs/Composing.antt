@@ -103,7 +103,7 @@ module _ (n : Netlist) (at : ℕ) (w : List ℕ) (g : Ground n at w) where
 pub going_after : (n : Netlist) (at : ℕ) (m : Made) (w ws : List ℕ) (t : Tally) (w₁ ws₁ : List ℕ) (one : Added) → Going n at w ws t
     → Extends at m w ws t w₁ ws₁ one → one.fits ≡ true → Keeps (drafted ws t) m.drivers → Going n at w₁ ws₁ one.tally
 going_after n at m w ws t w₁ ws₁ one g s e k = record {
-  ground = ground_after n at w g.ground w₁ (step_below at m w ws t w₁ ws₁ one s e);
+  grounded = ground_after n at w g.grounded w₁ (step_below at m w ws t w₁ ws₁ one s e);
   table = step_ready at m w ws t w₁ ws₁ one s e;
   keeps = subst (Keeps (step2 n).drivers) (sym (step_drivers at m w ws t w₁ ws₁ one s e)) (keeps_trans g.keeps k);
 }

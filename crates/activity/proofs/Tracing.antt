@@ -98,15 +98,15 @@ module _ (kinds starts list pins nets : List ℕ) (p i : ℕ) (at : ℕ) (w ws :
   which = ap (λ (x : Walked). x.enable) e
 
   inside : walked.enable < length list
-  inside = subst (λ (x : ℕ). x < size n) (sym which) (enables_inside n g.ground.accepted (walk n p) (all_inside n g.ground.accepted p k.inside k.found) i l)
+  inside = subst (λ (x : ℕ). x < size n) (sym which) (enables_inside n g.grounded.accepted (walk n p) (all_inside n g.grounded.accepted p k.inside k.found) i l)
 
   pub enable_place : 7 * length list + walked.enable < length w
-  enable_place = omega (arith, inside, g.ground.below, g.ground.inside)
+  enable_place = omega (arith, inside, g.grounded.below, g.grounded.inside)
 
   pub enable_told : (lit : Literal) (w' ws' : List ℕ) (r : Added) → Extends at (and_of (drafted ws t) lit.word (get_or w (7 * length list + walked.enable) 0)) w ws t w' ws' r
       → Extends at (and_of (drafted ws t) lit.word (lits (tables kinds starts list pins nets) (get_or (enables (walk (tables kinds starts list pins nets) p)) i 0))) w ws t w' ws' r
   enable_told lit w' ws' r s = subst (λ (x : ℕ). Extends at (and_of (drafted ws t) lit.word x) w ws t w' ws' r)
-      (g.ground.written.lits walked.enable inside ∙ ap (lits n) which) s
+      (g.grounded.written.lits walked.enable inside ∙ ap (lits n) which) s
 
 -- ---- the ANDs in turn
 gates_keep : (l : ℕ → ℕ) (es : List ℕ) (m : Made) → Keeps m.drivers (gates_over l m es).drivers
@@ -228,16 +228,16 @@ module _ (n : Netlist) (at : ℕ) (w ws : List ℕ) (t : Tally) (g : Going n at 
   module _ (p : ℕ) (k : Clocked n p) where
     word_is : (q : ℕ) (e : Edge) → q < size n → first_pin (is_flag q e) (step1 n) < length (step1 n) → get_or w (4 * size n + 2 * q + edge_word e) 0 ≡ first_pin (is_flag q e) (step1 n)
     unfolding flag_word
-    word_is q e l f = g.ground.flags.words q e l ∙ rw (lt-ltb (first_pin (is_flag q e) (step1 n)) (length (step1 n)) f)
+    word_is q e l f = g.grounded.flags.words q e l ∙ rw (lt-ltb (first_pin (is_flag q e) (step1 n)) (length (step1 n)) f)
 
-    known : (v : Walk) → Inside n g.ground.accepted v → Flagged (step1 n) v → EndKnown (size n) w (end_of v)
+    known : (v : Walk) → Inside n g.grounded.accepted v → Flagged (step1 n) v → EndKnown (size n) w (end_of v)
     known still i f = tt
     known (root q e) i f = (i, omega (arith, word_is q e i f, flags_few, f))
     known (gated v e) i f = known v i.0 f
     known strange i f = tt
     known far i f = tt
 
-    end_is : (v : Walk) → Inside n g.ground.accepted v → Flagged (step1 n) v → end_made (drafted ws t) v ≡ start_at (drafted ws t) (end_lit (size n) w (end_of v))
+    end_is : (v : Walk) → Inside n g.grounded.accepted v → Flagged (step1 n) v → end_made (drafted ws t) v ≡ start_at (drafted ws t) (end_lit (size n) w (end_of v))
     end_is still i f = refl
     end_is (root q e) i f = ap₂ start_at (flagged_none (drafted ws t) q e stays) (ap (λ (x : ℕ). 2 * x) (first_stays (is_flag q e) (step1 n) (drafted ws t) whole f ∙ sym (word_is q e i f)))
       where
@@ -257,8 +257,8 @@ module _ (kinds starts list pins nets : List ℕ) (p at : ℕ) (w ws : List ℕ)
   abbrev o : Netlist
   o = tables kinds starts list pins nets
 
-  within : Inside o g.ground.accepted (walk o p)
-  within = all_inside o g.ground.accepted p k.inside k.found
+  within : Inside o g.grounded.accepted (walk o p)
+  within = all_inside o g.grounded.accepted p k.inside k.found
 
   pub end_known : EndKnown (length list) w walked.end
   end_known = subst (EndKnown (length list) w) (sym (ap (λ (x : Walked). x.end) e)) (known o at w ws t g p k (walk o p) within k.flagged)
@@ -295,7 +295,7 @@ module _ (kinds starts list pins nets : List ℕ) (at : ℕ) (w ws : List ℕ) (
 
   pub entry_clocked : Going (tables kinds starts list pins nets) at w ws t → c < length kinds → is_clock (kind_at (get_or kinds c 0)) a ≡ true → is_clock (kind_at (get_or kinds c 0)) b ≡ true
       → (p : ℕ) → found ≡ Pin p → Clocked (tables kinds starts list pins nets) p
-  entry_clocked g l ia ib p e = clock_pin v g.ground.accepted c p l
+  entry_clocked g l ia ib p e = clock_pin v g.grounded.accepted c p l
       (keep_sub (has_name pins a b) (λ q. is_clock (kind_of v c) (name_of v q)) p (pins_of v c) is (entry_in (either_in pins a b (cell_pins starts list c)) k p (sym h ∙ e)))
     where
       by : (q : ℕ) (x : Bool) → (get_or pins (5 * q + 1) 0 == a) ≡ x → has_name pins a b q ≡ true → is_clock (kind_of v c) (name_of v q) ≡ true

@@ -34,7 +34,7 @@ pub record Ground (n : Netlist) (at : ℕ) (w : List ℕ) : Type 0 where
 
 -- and the driver table holds the drivers of step 2, and more
 pub record Going (n : Netlist) (at : ℕ) (w ws : List ℕ) (t : Tally) : Type 0 where
-  pub ground : Ground n at w
+  pub grounded : Ground n at w
   pub table : Table at w ws t
   pub keeps : Keeps (step2 n).drivers (drafted ws t)
 

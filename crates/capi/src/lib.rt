@@ -1,4 +1,6 @@
 // The calls for C and C++, as include/trazzughes.h declares them: numbers as themselves, a table as its pointer and its length.
+#![tactic(auto)]
+
 pub mod build;
 pub mod ends;
 pub mod graph;

@@ -147,7 +147,7 @@ module _ (kinds starts list pins nets : List ℕ) (rm : Rooms) (w ws os fs rs : 
           where
             from : Empty n rm w ws os → Going n at w₁ ws₁ step.tally
             from (empty f a c s z o l) = record {
-              ground = record {
+              grounded = record {
                 accepted = a;
                 fits = f;
                 below = omega (arith, ea);

@@ -97,7 +97,7 @@ ending_begins n at w ws so dffs rams g f ed er zd ld zr lr = record {
 module _ (n : Netlist) (at : ℕ) (w₀ ws₀ : List ℕ) (t₀ : Tally) (dffs₀ rams₀ w ws dffs rams : List ℕ) (i : ℕ) (so : Added)
     (h : Ending n at w₀ ws₀ t₀ dffs₀ rams₀ w ws dffs rams i so) where
   abbrev acc : Accepted n
-  acc = h.going.ground.accepted
+  acc = h.going.grounded.accepted
 
   -- ---- all cells are done
   pub ending_ends : cells n ≤ i → length ws ≡ length ws₀ → length dffs ≡ length dffs₀ → length rams ≡ length rams₀ → EndsDone n at w₀ ws₀ t₀ dffs₀ rams₀ w ws dffs rams (record { fits = true; tally = so.tally })
@@ -319,7 +319,7 @@ cell_passed kinds starts list pins nets c at w ws t dffs rams r a b d f e = let 
 pub going_begins : (n : Netlist) (r : ℕ) (w ws : List ℕ) (t : Tally) → Accepted n → Fits n → 8 * size n + 8 * r + 1024 ≤ length w → Table (index_at (size n) r) w ws t → drafted ws t ≡ (step2 n).drivers
     → Written n w (step2 n) → Flags (size n) w (step1 n) → Going n (index_at (size n) r) w ws t
 going_begins n r w ws t acc fits l table e written flags = record {
-  ground = record { accepted = acc; fits = fits; below = omega arith; inside = omega (arith, l); written = written; flags = flags };
+  grounded = record { accepted = acc; fits = fits; below = omega arith; inside = omega (arith, l); written = written; flags = flags };
   table = table;
   keeps = subst (Keeps (step2 n).drivers) (sym e) (keeps_refl (step2 n).drivers);
 }

@@ -37,7 +37,7 @@ use Rattle.flops.specs.Flopped.{Known, Both, both_set, both_reset, flop_both, Do
 
 -- ---- what is read
 pub known : (n : Netlist) (at : ℕ) (w ws : List ℕ) (t : Tally) → Going n at w ws t → Known n w
-known n at w ws t g = record { accepted = g.ground.accepted; fits = g.ground.fits; wide = omega (arith, g.ground.below, g.ground.inside); written = g.ground.written }
+known n at w ws t g = record { accepted = g.grounded.accepted; fits = g.grounded.fits; wide = omega (arith, g.grounded.below, g.grounded.inside); written = g.grounded.written }
 
 entry_first : (l : List ℕ) (p : ℕ) → entry_of l 0 ≡ Pin p → (d : ℕ) (f : ℕ → ℕ) → (0 < count p l) × (f p ≡ first_or d f l)
 unfolding entry_of

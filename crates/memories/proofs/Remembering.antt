@@ -307,7 +307,7 @@ module _ (kinds starts list pins nets : List ℕ) (at : ℕ) (w ws : List ℕ) (
     ram_ready = step_ready at m w ws t w₁ ws₁ got h.step e
 
     pub ram_known : Going (tables kinds starts list pins nets) at w ws t → Known (tables kinds starts list pins nets) w₁
-    ram_known g = let g' : Ground v at w₁ = ground_after v at w g.ground w₁ (step_below at m w ws t w₁ ws₁ got h.step e) in
+    ram_known g = let g' : Ground v at w₁ = ground_after v at w g.grounded w₁ (step_below at m w ws t w₁ ws₁ got h.step e) in
         record { accepted = g'.accepted; fits = g'.fits; wide = omega (arith, g'.below, g'.inside); written = g'.written }
 
     pub ram_then : (w₂ ws₂ rams₂ : List ℕ) (r : Added) → ClockedDone (tables kinds starts list pins nets) c k at w₁ ws₁ clocks.tally clocks.first.word clocks.second.word rams w₂ ws₂ rams₂ r
@@ -383,4 +383,4 @@ module _ (kinds starts list pins nets : List ℕ) (c number at : ℕ) (w ws : Li
     fresh_done more l em d = fresh absent (omega (arith, l)) (subst (λ (i : Tally). RowDone y c t.rams at w ws i rams w' ws' rams' r) em d)
 
 pub going_more : (n : Netlist) (at : ℕ) (w ws : List ℕ) (t more : Tally) → Going n at w ws t → more ≡ ram_counted t → Going n at w ws more
-going_more n at w ws t more g e = subst (Going n at w ws) (sym e) (record { ground = g.ground; table = record { ready = g.table.ready; gates = g.table.gates; few = g.table.few }; keeps = g.keeps })
+going_more n at w ws t more g e = subst (Going n at w ws) (sym e) (record { grounded = g.grounded; table = record { ready = g.table.ready; gates = g.table.gates; few = g.table.few }; keeps = g.keeps })

@@ -10,7 +10,7 @@ ghost use Rattle.texts.specs.Meanings.{Until, FieldRead, Taking, Fits, Placed, L
 
 // What was read of a text: how many lines, the broken one included; how many numbers; the sort of the latest record; how many
 // records of each sort; and what is wrong with the last line, 0 where nothing is.
-#[derive(Drop)]
+#[derive(Clone, Copy)]
 pub struct Reading {
     pub lines: usize,
     pub numbers: usize,

@@ -1,4 +1,6 @@
 // The tool as a function on bytes: a netlist's text in, its answer out. It uses the library's public calls alone.
+#![tactic(auto)]
+
 ghost use Rattle.std.specs.Prelude.{◌≡◌, ◌+◌, ◌*◌, ◌<◌, ◌≤◌, length};
 ghost use Rattle.answers.specs.Printing.{Printed};
 ghost use Rattle.tool.specs.Tool.{pins_bytes, records_bytes, fanouts_bytes, wrong_bytes, broken_bytes, refused_bytes};

@@ -5,7 +5,7 @@ use borrow.Author.Rules.{rules}
 use Rattle.activity.proofs.clock_activity.Goals as goal
 
 pub cell_entry-found-requires : goal.cell_entry-found-requires
-cell_entry-found-requires c = record { laid = search laid; cell_in_bounds = omega (arith, c.requires.going.ground.fits.starts_long) }
+cell_entry-found-requires c = record { laid = search laid; cell_in_bounds = omega (arith, c.requires.going.grounded.fits.starts_long) }
 
 pub activity-requires : goal.activity-requires
 activity-requires c = record { going = search rules; clocked = search (entry_clocked, c.requires.going, c.requires.a_value, c.requires.b_value) }

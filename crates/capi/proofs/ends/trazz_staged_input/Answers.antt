@@ -1,0 +1,6 @@
+use Rattle.capi.proofs.ToldEnds.{staged_input_told}
+use borrow.Author.Rules.{rules}
+use Rattle.capi.proofs.ends.trazz_staged_input.Goals as goal
+
+pub returns : goal.returns
+returns c = search staged_input_told

@@ -1,0 +1,6 @@
+use Rattle.capi.proofs.ToldGraph.{evaluate_told}
+use borrow.Author.Rules.{rules}
+use Rattle.capi.proofs.graph.trazz_evaluate.Goals as goal
+
+pub returns : goal.returns
+returns c = search evaluate_told

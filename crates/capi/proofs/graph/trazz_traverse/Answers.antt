@@ -1,0 +1,6 @@
+use Rattle.capi.proofs.ToldGraph.{traverse_told}
+use borrow.Author.Rules.{rules}
+use Rattle.capi.proofs.graph.trazz_traverse.Goals as goal
+
+pub returns : goal.returns
+returns c = search traverse_told
