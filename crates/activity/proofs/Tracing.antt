@@ -8,7 +8,7 @@ use native.Mathlib.Omega.{arith}
 use lib.ListN.{length, get_or, take, drop}
 use lib.Seq.{take_all}
 use borrow.Author.Tests.{lt-ltb, eqb-true}
-use Rattle.laws.specs.Tests.{if◌then◌else◌, ◌==◌}
+use Rattle.std.specs.Prelude.{if◌then◌else◌, ◌==◌}
 use Rattle.laws.specs.Lists.{count}
 use Rattle.laws.proofs.Tests.{true≢false}
 use Rattle.laws.proofs.Bags.{here, there, keep_sub}

@@ -1,33 +1,25 @@
 -- 3 to 11 and the graph, then the whole call, in the code's shape.
-use mathlib.Core.Path.{◌≡◌, refl, sym, ap, subst, ◌∙◌}
-use mathlib.Core.Bool.{Bool, true, false, ◌&&◌}
+use mathlib.Core.Path.{◌≡◌, refl, sym, ap, ◌∙◌}
+use mathlib.Core.Bool.{true, false}
 use mathlib.Core.List.{List}
-use Prim.Native.Nat.{ℕ, zero, suc, ◌+◌, ◌*◌, ◌≤◌, ◌<◌}
+use Prim.Native.Nat.{ℕ, zero, suc, ◌+◌, ◌*◌}
 use native.Mathlib.Omega.{arith}
 use lib.ListN.{length}
-use borrow.Author.Tests.{eqb-true, leb-true}
-use Rattle.laws.specs.Tests.{◌==◌, ◌≤?◌, or_else, refuse}
-use Rattle.laws.specs.Words.{zeros, filled}
-use Rattle.laws.proofs.Tests.{by_test, true≢false, and_l, and_r, first_refused, next-refused, refused, passed, or_zero, not_refused, last_refused}
+use Rattle.laws.specs.Tests.{refuse}
+use Rattle.laws.proofs.Tests.{true≢false, first_refused, next-refused, refused, passed}
 use Rattle.laws.proofs.Words.{zeros-length}
-use Rattle.rules.specs.declared.NetlistCounts.{NetlistCounts}
 use Rattle.rules.specs.declared.Rooms.{Rooms}
-use Rattle.rules.specs.declared.Tally.{Tally}
-use Rattle.rules.specs.declared.Built.{Built}
 use Rattle.rules.specs.declared.Built.TheVariants.{Made, Refused}
-use Rattle.rules.specs.Netlist.{Netlist, size, cells}
+use Rattle.rules.specs.Netlist.{Netlist, size}
 use Rattle.rules.specs.Build.{graph_of, tally}
-use Rattle.rules.specs.Bounds.{netlist_within, rooms_within, build_work}
 use Rattle.rules.specs.Refusals.{netlist_number, room_fits}
-use Rattle.rules.specs.Answers.{BuildLengths, BuildTables, build_number, build_tables, build_answer, netlist_long, rooms_long}
+use Rattle.rules.specs.Answers.{BuildTables, build_tables, build_answer}
 use Rattle.roles.specs.Reading.{tables}
-use Rattle.netlist.specs.Tables.{Long, long_by}
 use Rattle.checks.specs.Ready.{Asked}
 use Rattle.drafts.specs.declared.Counted.{Counted}
-use Rattle.visits.specs.Drafting.{Sized}
 use Rattle.prepares.specs.Prepared.{Prepared, prepared, turned_away}
 use Rattle.draws.specs.Drawing.{empty, undrawn}
-use Rattle.aig.specs.Building.{lent, lengths_of, blank, asked, Unfinished, unfinished, Finished, finished, too_small, Waiting, waiting, number, BuiltAs, Answered}
+use Rattle.aig.specs.Building.{lent, lengths_of, blank, asked, Unfinished, unfinished, Finished, finished, too_small, Waiting, waiting, number, BuiltAs}
 
 -- ---- a refusal by its number, and success
 refused_as : (n : Netlist) (rm : Rooms) (w w' : List ℕ) (t : BuildTables) (k : ℕ) → (k ≡ 0 → ⊥) → number n rm ≡ k → t ≡ blank (asked (size n) rm (length w)) → length w' ≡ length w

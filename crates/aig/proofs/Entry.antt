@@ -1,12 +1,13 @@
 -- The whole call, in the code's shape.
-use mathlib.Core.Path.{◌≡◌, refl, sym, ap, subst, ◌∙◌}
+use mathlib.Core.Path.{◌≡◌, refl, sym, ap, ◌∙◌}
 use mathlib.Core.Bool.{Bool, true, false, ◌&&◌}
 use mathlib.Core.List.{List}
-use Prim.Native.Nat.{ℕ, zero, suc, ◌+◌, ◌*◌, ◌≤◌, ◌<◌}
+use Prim.Native.Nat.{ℕ, zero, suc, ◌+◌, ◌*◌, ◌≤◌}
 use native.Mathlib.Omega.{arith}
 use lib.ListN.{length}
 use borrow.Author.Tests.{eqb-true, leb-true}
-use Rattle.laws.specs.Tests.{◌==◌, ◌≤?◌, or_else, refuse}
+use Rattle.std.specs.Prelude.{◌==◌}
+use Rattle.laws.specs.Tests.{◌≤?◌, or_else, refuse}
 use Rattle.laws.specs.Words.{zeros}
 use Rattle.laws.proofs.Tests.{and_l, and_r, not_refused, last_refused, next-refused, first_refused}
 use Rattle.laws.proofs.Words.{zeros-length}
@@ -14,10 +15,8 @@ use Rattle.rules.specs.declared.NetlistCounts.{NetlistCounts}
 use Rattle.rules.specs.declared.Rooms.{Rooms}
 use Rattle.rules.specs.declared.Built.{Built}
 use Rattle.rules.specs.declared.Built.TheVariants.{Refused}
-use Rattle.rules.specs.Netlist.{Netlist, size}
-use Rattle.rules.specs.Build.{graph_of, tally}
+use Rattle.rules.specs.Netlist.{Netlist}
 use Rattle.rules.specs.Bounds.{netlist_within, rooms_within, build_work}
-use Rattle.rules.specs.Refusals.{netlist_number, room_fits}
 use Rattle.rules.specs.Answers.{BuildLengths, BuildTables, build_number, build_tables, build_answer, netlist_long, rooms_long}
 use Rattle.rules.proofs.Tables.{four_true, five_true}
 use Rattle.roles.specs.Reading.{tables}

@@ -1,24 +1,22 @@
 -- The tables of an accepted netlist, in the code's shape.
 use mathlib.Core.Path.{◌≡◌, refl, sym, ap, subst, ◌∙◌}
 use mathlib.Core.Bool.{Bool, true, false}
-use mathlib.Core.List.{List, [], ◌∷◌, map}
+use mathlib.Core.List.{List}
 use Prim.Native.Nat.{ℕ, ◌+◌, ◌-◌, ◌*◌, ◌≤◌, ◌<◌}
 use native.Mathlib.Omega.{arith}
 use lib.ListN.{length, get_or, length-append}
 use lib.Seq.{ext_get_or}
-use Rattle.laws.specs.Lists.{flat, upto}
+use Rattle.laws.specs.Lists.{flat}
 use Rattle.laws.specs.Words.{zeros, filled, part}
 use Rattle.laws.proofs.Tests.{by_test, true≢false}
 use Rattle.laws.proofs.Ranges.{map-upto, length-map-upto}
 use Rattle.laws.proofs.Words.{zeros-length, part_length, part_at, filled-length, filled_at}
-use Rattle.rules.specs.declared.Driver.{Driver}
-use Rattle.rules.specs.declared.Tally.{Tally}
 use Rattle.rules.specs.declared.Rooms.{Rooms}
-use Rattle.rules.specs.Netlist.{Netlist, size, cells}
-use Rattle.rules.specs.Tables.{driver_words, record_words, ram_words, drivers_in}
-use Rattle.rules.specs.Build.{step2, step3, graph_of, literals_of, fanouts, fanout_starts, tally, gate_count}
-use Rattle.rules.specs.Refusals.{Accepted, room_fits}
-use Rattle.rules.specs.Answers.{BuildLengths, BuildTables, build_tables}
+use Rattle.rules.specs.Netlist.{Netlist, size}
+use Rattle.rules.specs.Tables.{driver_words, record_words, ram_words}
+use Rattle.rules.specs.Build.{step2, step3, graph_of, literals_of, fanouts, fanout_starts, tally}
+use Rattle.rules.specs.Refusals.{Accepted}
+use Rattle.rules.specs.Answers.{BuildTables}
 use Rattle.drivers.specs.Written.{Holds}
 use Rattle.drivers.proofs.Rows.{drivers_long_lem}
 use Rattle.walk.specs.State.{Operands}
@@ -28,7 +26,6 @@ use Rattle.builds.proofs.Passes12.{built_sound, rows_shaped}
 use Rattle.drafts.specs.declared.Counted.{Counted}
 use Rattle.drafts.specs.Table.{Table, drafted}
 use Rattle.drafts.specs.Layout.{index_at}
-use Rattle.visits.specs.Drafting.{Sized}
 use Rattle.fanouts.specs.Fans.{Fanned}
 use Rattle.fanouts.proofs.Passes.{unfanned_starts, unfanned_lists}
 use Rattle.results.proofs.Drivers.{holds_filled, holds_operands}

@@ -1,5 +1,5 @@
 -- What building's calls leave of their tables.
-use Rattle.std.specs.Prelude.{◌≡◌, Bool, true, false, List, ℕ, ◌+◌, ◌*◌, ◌≤◌, length}
+use Rattle.std.specs.Prelude.{◌≡◌, true, false, List, ℕ, ◌+◌, ◌*◌, ◌≤◌, length}
 use Rattle.laws.specs.Tests.{or_else, refuse}
 use Rattle.laws.specs.Words.{zeros}
 use Rattle.rules.specs.declared.NetlistCounts.{NetlistCounts}

@@ -1,16 +1,15 @@
 -- Rows, drivers and stages, a line at a time.
 use mathlib.Core.Path.{◌≡◌, refl, sym, ◌∙◌, ap, subst}
-use mathlib.Core.Bool.{Bool, true, false}
 use mathlib.Core.List.{List, [], ◌∷◌, ◌++◌}
 use Prim.Native.Nat.{ℕ, zero, suc, ◌+◌, ◌-◌, ◌*◌, ◌<◌, ◌≤◌}
 use native.Mathlib.Omega.{arith}
-use borrow.Author.Tests.{eq-eqb, ne_eqb, le-leb, lt-leb, leb-true, leb-false}
+use borrow.Author.Tests.{eq-eqb, ne_eqb, leb-true, leb-false}
 use lib.ListN.{length, get_or, take, drop}
 use lib.Seq.{drop-drop}
-use Rattle.laws.specs.Tests.{if◌then◌else◌, ◌==◌, ◌≤?◌}
+use Rattle.std.specs.Prelude.{if◌then◌else◌}
+use Rattle.laws.specs.Tests.{◌≤?◌}
 use Rattle.laws.specs.Words.{part}
 use Rattle.laws.proofs.Tests.{by_test, if_true, if_false}
-use Rattle.texts.specs.Text.{tab, newline}
 use Rattle.answers.specs.Printing.{Printed, field_bytes, line_bytes, rows_bytes, numbered_bytes}
 use Rattle.answers.specs.Answer.{const_word, and_word, port_word, flag_word, dff_word, ram_word, driver_word, rising_end, falling_end, flag_bytes, source_bytes, driver_bytes, driver_at, drivers_bytes, stage_word, hand_word, ends_word, open_end, ends_bytes, stage_at, stages_bytes}
 use Rattle.answers.proofs.Placing.{Printing, printing_begins, printing_more, printing_ends, printed_then, drop-none}

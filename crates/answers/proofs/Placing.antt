@@ -1,19 +1,20 @@
 -- Laws of printing: one piece behind another, and a loop that prints pieces up to a whole.
 use mathlib.Core.Path.{◌≡◌, refl, sym, ◌∙◌, ap, subst}
-use mathlib.Core.Bool.{Bool, true, false, ◌||◌}
+use mathlib.Core.Bool.{true, false}
 use mathlib.Core.List.{List, [], ◌∷◌, ◌++◌, append_assoc, append-nil}
-use Prim.Native.Nat.{ℕ, zero, suc, ◌+◌, ◌-◌, ◌*◌, ◌/◌, ◌%◌, ◌<◌, ◌≤◌}
+use Prim.Native.Nat.{ℕ, zero, suc, ◌+◌, ◌-◌, ◌/◌, ◌%◌, ◌<◌, ◌≤◌}
 use native.Mathlib.Omega.{arith}
 use native.Mathlib.Numerals.{add-one}
 use borrow.Author.Tests.{eq-eqb, ne_eqb, le-leb, lt-leb, leb-true, leb-false}
 use lib.ListN.{length, get_or, take, drop, set, length-append, length-set, length-drop}
 use lib.Seq.{drop-cons, drop-length, set_out, take_all}
-use Rattle.laws.specs.Tests.{if◌then◌else◌, ◌==◌, ◌≤?◌}
+use Rattle.std.specs.Prelude.{if◌then◌else◌}
+use Rattle.laws.specs.Tests.{◌≤?◌}
 use Rattle.laws.specs.Words.{part}
 use Rattle.laws.proofs.Tests.{by_test, if_true, if_false}
-use Rattle.texts.specs.Text.{stored, tab, newline}
+use Rattle.texts.specs.Text.{stored}
 use Rattle.texts.proofs.Bytes.{stored-append, stored-length}
-use Rattle.answers.specs.Printing.{reach, Printed, digit_at, digits_from, decimal, field_bytes, fields_bytes, line_bytes, rows_bytes, numbered_bytes}
+use Rattle.answers.specs.Printing.{reach, Printed, digit_at, digits_from, decimal, field_bytes, fields_bytes, line_bytes}
 
 -- ---- places
 module _ (room at n : ℕ) where

@@ -1,9 +1,8 @@
 -- The answer text: a graph and its stages, line by line.
-use Rattle.std.specs.Prelude.{◌≡◌, Bool, true, false, List, [], ◌∷◌, ◌++◌, ℕ, zero, suc, ◌+◌, ◌*◌, length, get_or, take, drop}
-use Rattle.laws.specs.Tests.{if◌then◌else◌, ◌==◌}
+use Rattle.std.specs.Prelude.{List, [], ◌∷◌, ◌++◌, ℕ, zero, suc, ◌+◌, ◌*◌, get_or, if◌then◌else◌, ◌==◌}
 use Rattle.laws.specs.Words.{part}
-use Rattle.texts.specs.Text.{tab, newline}
-use Rattle.answers.specs.Printing.{field_bytes, line_bytes, rows_bytes, numbered_bytes}
+use Rattle.texts.specs.Text.{tab}
+use Rattle.answers.specs.Printing.{field_bytes, line_bytes}
 
 -- what drives a pin: its words in the driver table
 abbrev pub const_word : List ℕ

@@ -1,6 +1,6 @@
 -- Bytes printed into a buffer from a place on, as far as the buffer reaches.
-use Rattle.std.specs.Prelude.{◌≡◌, Bool, true, false, ◌||◌, List, [], ◌∷◌, ◌++◌, ℕ, zero, suc, ◌+◌, ◌*◌, ◌/◌, ◌%◌, length, get_or, take, drop}
-use Rattle.laws.specs.Tests.{if◌then◌else◌, ◌==◌, ◌≤?◌}
+use Rattle.std.specs.Prelude.{◌≡◌, ◌||◌, List, [], ◌∷◌, ◌++◌, ℕ, zero, suc, ◌+◌, ◌/◌, ◌%◌, length, get_or, take, drop, if◌then◌else◌, ◌==◌}
+use Rattle.laws.specs.Tests.{◌≤?◌}
 use Rattle.texts.specs.Text.{stored, tab, newline}
 
 -- the place behind n bytes more: no further than the end

@@ -1,8 +1,8 @@
 // Prints the answer text into a lent buffer, from a place on, as far as the buffer reaches. specs/ says what each line is.
 #![tactic(auto)]
 
-ghost use Rattle.std.specs.Prelude.{◌≡◌, [], ◌∷◌, ◌+◌, ◌-◌, ◌≤◌, ◌<◌, length, get_or, take, drop};
-ghost use Rattle.laws.specs.Tests.{if◌then◌else◌, ◌≤?◌};
+ghost use Rattle.std.specs.Prelude.{◌≡◌, [], ◌∷◌, ◌+◌, ◌-◌, ◌≤◌, ◌<◌, length, get_or, take, drop, if◌then◌else◌};
+ghost use Rattle.laws.specs.Tests.{◌≤?◌};
 ghost use Rattle.laws.specs.Words.{part};
 ghost use Rattle.answers.specs.Printing.{Printed, digit_at, decimal, field_bytes, fields_bytes, line_bytes, rows_bytes, numbered_bytes};
 ghost use Rattle.answers.specs.Answer.{flag_bytes, source_bytes, driver_bytes, driver_at, drivers_bytes, ends_bytes, stage_at, stages_bytes};

@@ -1,21 +1,20 @@
 -- A split of a graph that was checked: its refusals, and what it leaves in the tables.
-use mathlib.Core.Path.{◌≡◌, refl, sym, ap, subst, ◌∙◌}
-use mathlib.Core.Logic.{◌⊎◌, inl, inr}
+use mathlib.Core.Path.{◌≡◌, sym, ap, subst, ◌∙◌}
+use mathlib.Core.Logic.{inl, inr}
 use mathlib.Core.Bool.{Bool, true, false, ◌&&◌}
-use mathlib.Core.List.{List, [], ◌∷◌, ◌++◌}
+use mathlib.Core.List.{List, ◌++◌}
 use mathlib.Core.Option.{some}
-use Prim.Native.Nat.{ℕ, suc, ◌+◌, ◌-◌, ◌*◌, ◌<◌, ◌≤◌}
+use Prim.Native.Nat.{ℕ, suc, ◌+◌, ◌*◌, ◌<◌, ◌≤◌}
 use native.Mathlib.Omega.{arith}
-use lib.ListN.{length, get_or}
+use lib.ListN.{length}
 use borrow.Author.Tests.{le-leb, lt-leb, lt-ltb, ltb-true, le-ltb}
-use Rattle.laws.specs.Tests.{◌<?◌, ◌≤?◌, or_else, refuse}
+use Rattle.laws.specs.Tests.{◌<?◌, ◌≤?◌, refuse}
 use Rattle.laws.specs.Lists.{count}
 use Rattle.laws.specs.Words.{part, zeros, filled, ZeroFrom}
 use Rattle.laws.proofs.Tests.{true≢false, and_l, and_r, and-false}
 use Rattle.laws.proofs.Bags.{every_true}
-use Rattle.laws.proofs.Words.{zeros-length, part_none, part_filled, zero_from_zeros}
+use Rattle.laws.proofs.Words.{part_none, part_filled, zero_from_zeros}
 use Rattle.rules.specs.declared.GraphCounts.{GraphCounts}
-use Rattle.rules.specs.declared.Parted.{Parted}
 use Rattle.rules.specs.declared.Parted.TheVariants.{Stage as PartedStage, Refused}
 use Rattle.rules.specs.Tables.{graph_in, held}
 use Rattle.rules.specs.Stages.{Stage, split}
@@ -27,7 +26,7 @@ use Rattle.picks.specs.Tables.{Open, Pushed}
 use Rattle.splits.specs.declared.Spot.{Spot}
 use Rattle.splits.specs.declared.Piece.{Piece}
 use Rattle.splits.specs.State.{split_in, order_in, Idle, CutOff, made, narrow}
-use Rattle.asked.specs.Answer.{Sound, Room, sets, Laid, Begun, begun, no_sets, Parts, late_number, Parted1}
+use Rattle.asked.specs.Answer.{Room, sets, Laid, Begun, begun, no_sets, Parts, late_number, Parted1}
 use Rattle.asked.proofs.Graphs.{stops_members, split_is, nothing_read}
 
 -- a table that was 0 and has these words now is filled by them

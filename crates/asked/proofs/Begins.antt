@@ -2,22 +2,23 @@
 use mathlib.Core.Path.{◌≡◌, refl, sym, ap, subst, ◌∙◌}
 use mathlib.Core.Bool.{Bool, true, false, ◌&&◌}
 use mathlib.Core.List.{List, [], ◌∷◌, ◌++◌, append-nil, append_assoc}
-use Prim.Native.Nat.{ℕ, suc, ◌+◌, ◌-◌, ◌*◌, ◌<◌, ◌≤◌}
+use Prim.Native.Nat.{ℕ, ◌+◌, ◌*◌, ◌<◌, ◌≤◌}
 use native.Mathlib.Omega.{arith}
 use lib.ListN.{length, get_or, length-append}
 use borrow.Author.Tests.{eq-eqb, eqb-true, le-leb, lt-leb}
-use Rattle.laws.specs.Tests.{◌==◌, ◌≤?◌, one}
-use Rattle.laws.specs.Lists.{count, member, every, over}
+use Rattle.std.specs.Prelude.{◌==◌}
+use Rattle.laws.specs.Tests.{◌≤?◌}
+use Rattle.laws.specs.Lists.{count, member, over}
 use Rattle.laws.specs.Sets.{insert}
-use Rattle.laws.specs.Words.{part, zeros, AllBelow}
-use Rattle.laws.proofs.Tests.{by_test, and_l, and_r, and-false, bits_same, both_true, one_le}
-use Rattle.laws.proofs.Bags.{count-append, every_true, every_all, member_true, member_false, is_member, here}
-use Rattle.laws.proofs.Sets.{Placed, insert-once, insert_old, insert_new}
+use Rattle.laws.specs.Words.{part, AllBelow}
+use Rattle.laws.proofs.Tests.{by_test, and-false, bits_same, one_le}
+use Rattle.laws.proofs.Bags.{count-append, every_true, every_all, member_true, member_false}
+use Rattle.laws.proofs.Sets.{insert-once, insert_new}
 use Rattle.laws.proofs.Words.{zeros_at, part_none, part_at, part_length, below_tested, word_past}
 use Rattle.rules.specs.Refusals.{below, no_repeat}
 use Rattle.walk.specs.State.{Stops, StopsSet}
-use Rattle.members.specs.Set.{Within, SetIn, InsertedAll}
-use Rattle.asked.specs.Answer.{lists_fit, Room, sets, Laid, Begun, begun, no_sets}
+use Rattle.members.specs.Set.{SetIn, InsertedAll}
+use Rattle.asked.specs.Answer.{lists_fit, Room, Begun, begun, no_sets}
 
 -- ---- 1, in turn
 module _ (c b l h t : ℕ) where

@@ -3,11 +3,12 @@ use mathlib.Core.Path.{◌≡◌, refl, sym, ap, subst, ◌∙◌}
 use mathlib.Core.Bool.{Bool, true, false, ◌&&◌, not}
 use mathlib.Core.List.{List, [], ◌∷◌, ◌++◌}
 use mathlib.Core.Option.{Option, some}
-use Prim.Native.Nat.{ℕ, suc, ◌+◌, ◌-◌, ◌*◌, ◌/◌, ◌<◌, ◌≤◌}
+use Prim.Native.Nat.{ℕ, ◌+◌, ◌-◌, ◌*◌, ◌<◌, ◌≤◌}
 use native.Mathlib.Omega.{arith}
 use lib.ListN.{length, get_or}
-use borrow.Author.Tests.{leb-true, eqb-true, ltb-true, ltb-false, lt-ltb, le-ltb}
-use Rattle.laws.specs.Tests.{if◌then◌else◌, ◌==◌, ◌<?◌, ◌≤?◌, one, or_else, refuse}
+use borrow.Author.Tests.{leb-true, eqb-true, ltb-true, ltb-false, lt-ltb}
+use Rattle.std.specs.Prelude.{if◌then◌else◌, ◌==◌}
+use Rattle.laws.specs.Tests.{◌<?◌, ◌≤?◌, one}
 use Rattle.laws.specs.Lists.{count, member, keep, every, any, flat, over, upto}
 use Rattle.laws.specs.Search.{visits, level}
 use Rattle.laws.proofs.Tests.{by_test, and_l, and_r, not_refused, last_refused}
@@ -18,20 +19,19 @@ use Rattle.laws.proofs.Visits.{visits_has}
 use Rattle.rules.specs.declared.Endpoint.{Endpoint}
 use Rattle.rules.specs.declared.Endpoint.TheVariants.{Output, Flop, Memory, Handed}
 use Rattle.rules.specs.declared.GraphCounts.{GraphCounts}
-use Rattle.rules.specs.Graph.{Graph, no_record, no_ram, operands, driver_of, pin_count}
+use Rattle.rules.specs.Graph.{Graph, no_record, no_ram, operands, driver_of}
 use Rattle.rules.specs.Tables.{drivers_in, graph_in, driver_or, decode_at}
 use Rattle.rules.specs.Bounds.{graph_within, stage_work}
-use Rattle.rules.specs.Stages.{dff_reads, ram_reads, reads_of, reads, inputs, inputs_of, endpoint_of, Joining, Stage, read, back, split, within}
+use Rattle.rules.specs.Stages.{dff_reads, ram_reads, reads_of, reads, inputs, endpoint_of, Stage, split, within}
 use Rattle.rules.specs.Refusals.{drivers_fit, records_fit, something_read}
 use Rattle.rules.specs.Answers.{endpoints, graph_long, graph_fits, graph_number}
-use Rattle.cuts.specs.Checked.{Checked}
 use Rattle.cuts.proofs.Checked.{number_checked}
 use Rattle.cuts.proofs.Joining.{join_by, take_by}
 use Rattle.graphs.specs.Parts.{lent as words_of}
 use Rattle.walk.specs.State.{goes, Stops}
-use Rattle.reads.specs.Reads.{Lent, records_of, reads_in, ins_of, reads_long}
+use Rattle.reads.specs.Reads.{Lent, records_of, reads_in, ins_of}
 use Rattle.reads.proofs.Inputs.{reads-length}
-use Rattle.levels.specs.State.{stops_of, ReadsFit}
+use Rattle.levels.specs.State.{stops_of}
 use Rattle.levels.proofs.Stops.{stops_are}
 use Rattle.splits.specs.State.{graph_of, split_in, order_in}
 use Rattle.splits.proofs.Cuts.{ins_fun}

@@ -1,5 +1,5 @@
 -- What a split asked alone answers and leaves, and the parts of its number as the code tests them.
-use Rattle.std.specs.Prelude.{◌≡◌, Bool, true, false, ◌&&◌, List, [], ℕ, ◌+◌, ◌-◌, ◌*◌, ◌<◌, ◌≤◌, length, get_or}
+use Rattle.std.specs.Prelude.{◌≡◌, Bool, true, false, ◌&&◌, List, ℕ, ◌+◌, ◌-◌, ◌*◌, ◌<◌, ◌≤◌, length, get_or}
 use Rattle.std.proofs.Math.Option.{some}
 use Rattle.laws.specs.Tests.{◌≤?◌, or_else, refuse}
 use Rattle.laws.specs.Words.{part, zeros}
@@ -7,9 +7,9 @@ use Rattle.rules.specs.declared.GraphCounts.{GraphCounts}
 use Rattle.rules.specs.declared.Parted.{Parted}
 use Rattle.rules.specs.Bounds.{max_list, max_level}
 use Rattle.rules.specs.Tables.{GraphWords, graph_in, held}
-use Rattle.rules.specs.Stages.{Stage, split}
+use Rattle.rules.specs.Stages.{split}
 use Rattle.rules.specs.Refusals.{drivers_fit, below, no_repeat, something_read}
-use Rattle.rules.specs.Answers.{endpoints, pin_set, stage_fits, split_number, parted_of}
+use Rattle.rules.specs.Answers.{endpoints, pin_set, stage_fits, parted_of}
 use Rattle.cuts.specs.Checked.{Checked}
 use Rattle.graphs.specs.Parts.{lent as words_of}
 use Rattle.walk.specs.State.{Stops}

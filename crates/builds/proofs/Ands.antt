@@ -7,7 +7,8 @@ use Prim.Native.Nat.{ℕ, zero, suc, ◌≤◌, ◌<◌, min, max}
 use native.Mathlib.Omega.{arith}
 use lib.ListN.{length}
 use borrow.Author.Tests.{ltb-true, ltb-false, lt-ltb, eqb-true, eqb-false, eq-eqb}
-use Rattle.laws.specs.Tests.{◌==◌, ◌<?◌}
+use Rattle.std.specs.Prelude.{◌==◌}
+use Rattle.laws.specs.Tests.{◌<?◌}
 use Rattle.laws.proofs.Tests.{by_test, true≢false, and_both, min-max}
 use Rattle.laws.proofs.Indices.{snoc_length, snoc_at}
 use Rattle.rules.specs.declared.Edge.{Edge}

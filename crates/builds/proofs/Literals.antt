@@ -4,7 +4,8 @@ use mathlib.Core.Bool.{Bool, true, false, not, not-not}
 use Prim.Native.Nat.{ℕ, ◌+◌, ◌-◌, ◌*◌, ◌%◌}
 use native.Mathlib.Omega.{arith}
 use borrow.Author.Tests.{eqb-true, eqb-false}
-use Rattle.laws.specs.Tests.{◌==◌, xor}
+use Rattle.std.specs.Prelude.{◌==◌}
+use Rattle.laws.specs.Tests.{xor}
 use Rattle.laws.proofs.Tests.{by_test}
 use Rattle.rules.specs.Graph.{pin_of, opposite, opposite_if}
 use Rattle.rules.specs.Work.{turned}

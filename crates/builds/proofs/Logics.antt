@@ -5,7 +5,7 @@ use mathlib.Core.List.{[], ◌∷◌}
 use Prim.Native.Nat.{ℕ, ◌<◌}
 use native.Mathlib.Omega.{arith}
 use borrow.Author.Tests.{eqb-true}
-use Rattle.laws.specs.Tests.{◌==◌}
+use Rattle.std.specs.Prelude.{◌==◌}
 use Rattle.laws.specs.Lists.{count, keep}
 use Rattle.laws.proofs.Tests.{and_l, or_cases, or_left, or_right}
 use Rattle.laws.proofs.Bags.{at_head, count-keep, keep_le, keep_true, keep_sub}

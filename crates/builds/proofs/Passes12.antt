@@ -6,7 +6,8 @@ use Prim.Native.Nat.{ℕ, zero, suc, ◌+◌, ◌-◌, ◌*◌, ◌≤◌, ◌<�
 use native.Mathlib.Omega.{arith}
 use lib.ListN.{length, get_or}
 use borrow.Author.Tests.{lt-ltb, le-leb, eq-eqb, eqb-true, eqb-false}
-use Rattle.laws.specs.Tests.{◌==◌, ◌<?◌, ◌≤?◌, one}
+use Rattle.std.specs.Prelude.{◌==◌}
+use Rattle.laws.specs.Tests.{◌<?◌, ◌≤?◌, one}
 use Rattle.laws.specs.Lists.{count, member, keep, every, flat, upto, first_or}
 use Rattle.laws.proofs.Tests.{by_test, both_true, one_eq, one_ne}
 use Rattle.laws.proofs.Bags.{member_true, member_false, count-append, of_append, at_head, here, there, count-keep, count-drop, keep_le, every_all, of_flat, from_map}

@@ -4,7 +4,7 @@ use mathlib.Core.Bool.{Bool, true, false, not, ◌&&◌, ◌||◌}
 use mathlib.Core.List.{List, [], ◌∷◌}
 use Prim.Native.Nat.{ℕ, ◌+◌, ◌≤◌, ◌<◌}
 use native.Mathlib.Omega.{arith}
-use Rattle.laws.specs.Tests.{◌==◌}
+use Rattle.std.specs.Prelude.{◌==◌}
 use Rattle.laws.specs.Lists.{count, flat, over, upto, first_or, put}
 use Rattle.laws.proofs.Tests.{one_eq}
 use Rattle.laws.proofs.Bags.{count-append, at_head, here, there, in_flat, first_through, put_other, put_by}

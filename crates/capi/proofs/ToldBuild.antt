@@ -1,12 +1,13 @@
 -- Building, as it is told.
-use mathlib.Core.Path.{◌≡◌, refl, sym, ap, subst, ◌∙◌}
+use mathlib.Core.Path.{◌≡◌, refl, sym, ap, ◌∙◌}
 use mathlib.Core.Bool.{Bool, true, false, ◌&&◌}
 use mathlib.Core.List.{List, [], ◌∷◌}
 use Prim.Native.Nat.{ℕ, zero, suc, ◌+◌, ◌*◌, ◌≤◌, ◌<◌}
 use native.Mathlib.Omega.{arith}
-use borrow.Author.Tests.{ne_eqb, le-leb, lt-leb, leb-true, leb-false}
+use borrow.Author.Tests.{ne_eqb, le-leb, lt-leb, leb-true}
 use lib.ListN.{length, set, take, drop}
-use Rattle.laws.specs.Tests.{◌==◌, ◌≤?◌, or_else, refuse, if◌then◌else◌}
+use Rattle.std.specs.Prelude.{◌==◌}
+use Rattle.laws.specs.Tests.{◌≤?◌, or_else, refuse}
 use Rattle.laws.specs.Words.{zeros, filled}
 use Rattle.laws.proofs.Tests.{by_test, true≢false, not_refused}
 use Rattle.laws.proofs.Words.{zeros-length, filled_none, filled_more}

@@ -1,7 +1,7 @@
 -- What trazz_build answers and leaves: the graph of a netlist by the rules, whatever was lent, with its five tallies in a table of counts of five words
 -- or more. A shorter one is a refusal 2, in document 01's place: after 1, and before what follows.
-use Rattle.std.specs.Prelude.{◌≡◌, ◌&&◌, List, [], ◌∷◌, ℕ, length}
-use Rattle.laws.specs.Tests.{if◌then◌else◌, ◌≤?◌, or_else, refuse}
+use Rattle.std.specs.Prelude.{◌≡◌, ◌&&◌, List, [], ◌∷◌, ℕ, length, if◌then◌else◌}
+use Rattle.laws.specs.Tests.{◌≤?◌, or_else, refuse}
 use Rattle.laws.specs.Words.{zeros}
 use Rattle.rules.specs.declared.NetlistCounts.{NetlistCounts}
 use Rattle.rules.specs.declared.Rooms.{Rooms}

@@ -1,15 +1,15 @@
 -- The tests 3 to 10 one after the other, in the code's shape.
-use mathlib.Core.Path.{◌≡◌, refl, sym, ◌∙◌, ap}
+use mathlib.Core.Path.{◌≡◌, sym, ◌∙◌, ap}
 use mathlib.Core.Bool.{Bool, true, false}
 use mathlib.Core.List.{List, map}
-use Prim.Native.Nat.{ℕ, ◌+◌, ◌*◌, ◌<◌, ◌≤◌}
+use Prim.Native.Nat.{ℕ, ◌*◌}
 use native.Mathlib.Omega.{arith}
 use lib.ListN.{length, get_or}
 use Rattle.laws.specs.Tests.{or_else, refuse}
-use Rattle.laws.specs.Words.{zeros, part}
+use Rattle.laws.specs.Words.{zeros}
 use Rattle.laws.proofs.Tests.{by_test, true≢false, first_refused, next-refused}
 use Rattle.laws.proofs.Words.{zeros_at, zeros-length, part_same}
-use Rattle.rules.specs.Netlist.{Netlist, size}
+use Rattle.rules.specs.Netlist.{Netlist}
 use Rattle.rules.specs.Refusals.{tables_number, loop_free, clocks_number, check_number, mark_free}
 use Rattle.roles.specs.Reading.{tables, Fits}
 use Rattle.orders.specs.State.{event_of, events_of, Fresh, Ordered}

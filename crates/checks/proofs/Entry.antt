@@ -6,16 +6,16 @@ use Prim.Native.Nat.{ℕ, zero, suc, ◌+◌, ◌*◌, ◌<◌, ◌≤◌}
 use native.Mathlib.Omega.{arith}
 use lib.ListN.{length}
 use borrow.Author.Tests.{eqb-true, leb-true, lt-leb, le-leb}
-use Rattle.laws.specs.Tests.{◌==◌, ◌≤?◌, or_else, refuse}
+use Rattle.std.specs.Prelude.{◌==◌}
+use Rattle.laws.specs.Tests.{◌≤?◌, or_else, refuse}
 use Rattle.laws.specs.Words.{zeros}
 use Rattle.laws.proofs.Tests.{and_l, and_r, not_refused, last_refused}
-use Rattle.laws.proofs.Words.{zeros-length}
 use Rattle.rules.specs.declared.NetlistCounts.{NetlistCounts}
 use Rattle.rules.specs.Netlist.{Netlist}
 use Rattle.rules.specs.Bounds.{netlist_within}
 use Rattle.rules.specs.Answers.{netlist_long, netlist_asked, check_netlist_number, check_all_number}
 use Rattle.netlist.specs.Tables.{long_by}
-use Rattle.netlist.proofs.Whole.{zeros_self, now_long, long_is}
+use Rattle.netlist.proofs.Whole.{now_long}
 use Rattle.roles.specs.Reading.{tables}
 use Rattle.checks.specs.Ready.{sizes_number, number_to, asked_number, Asked}
 

@@ -1,7 +1,7 @@
 -- What the tests of a netlist leave, and where: with m pins the visits' marks lie from 0, words of the stack or the markers from m, the
 -- events from 2 * m to 4 * m, and the caller's words behind them.
-use Rattle.std.specs.Prelude.{◌≡◌, Bool, ◌&&◌, List, ℕ, ◌+◌, ◌*◌, ◌<◌, ◌≤◌, length, get_or}
-use Rattle.laws.specs.Tests.{if◌then◌else◌, ◌≤?◌, or_else, refuse}
+use Rattle.std.specs.Prelude.{◌≡◌, Bool, ◌&&◌, List, ℕ, ◌+◌, ◌*◌, ◌<◌, ◌≤◌, length, get_or, if◌then◌else◌}
+use Rattle.laws.specs.Tests.{◌≤?◌, or_else, refuse}
 use Rattle.rules.specs.declared.NetlistCounts.{NetlistCounts}
 use Rattle.rules.specs.Netlist.{Netlist, size}
 use Rattle.rules.specs.Bounds.{netlist_within}

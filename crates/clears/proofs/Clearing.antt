@@ -1,6 +1,6 @@
 -- Pins cleared one after the other, and then the set and the walk.
 use mathlib.Core.Path.{◌≡◌, refl, sym, ap, subst, ◌∙◌}
-use mathlib.Core.Bool.{Bool, true, false}
+use mathlib.Core.Bool.{Bool}
 use mathlib.Core.List.{List, [], ◌∷◌, ◌++◌}
 use Prim.Native.Nat.{ℕ, ◌+◌, ◌-◌, ◌*◌, ◌<◌, ◌≤◌}
 use native.Mathlib.Numerals.{add-one}
@@ -8,18 +8,18 @@ use native.Mathlib.Omega.{arith}
 use lib.ListN.{length, get_or, take, set, replicate, length-set, length-replicate}
 use lib.Seq.{get_or-set_other, take-suc, take_all}
 use borrow.Author.Tests.{eqb-true, eqb-false, ltb-true, ltb-false}
-use Rattle.laws.specs.Tests.{if◌then◌else◌, ◌==◌, ◌<?◌}
+use Rattle.std.specs.Prelude.{if◌then◌else◌, ◌==◌}
+use Rattle.laws.specs.Tests.{◌<?◌}
 use Rattle.laws.specs.Lists.{count, member}
-use Rattle.laws.specs.Words.{part}
 use Rattle.laws.proofs.Tests.{by_test, if_true, if_false}
 use Rattle.laws.proofs.Bags.{member_false, member_last, member_other}
-use Rattle.laws.proofs.Words.{get_d_set, zero_there, part_length, part_at}
+use Rattle.laws.proofs.Words.{zero_there, part_length, part_at}
 use Rattle.words.specs.Tables.{written}
 use Rattle.words.proofs.Tables.{written-length, written-before, written_at, written_after}
 use Rattle.walk.specs.State.{list_of, Listing, Forgotten}
-use Rattle.members.specs.Set.{Within, SetIn}
+use Rattle.members.specs.Set.{Within}
 use Rattle.members.proofs.Frames.{within_none, within_on, within-set}
-use Rattle.levels.proofs.Stops.{list_same, listing_same}
+use Rattle.levels.proofs.Stops.{listing_same}
 use Rattle.clears.specs.State.{Used, pin_cleared, PinsCleared, Cleared}
 
 -- ---- one pin

@@ -1,6 +1,6 @@
 -- Stops added and endpoints that leave, one after the other.
 use mathlib.Core.Path.{◌≡◌, refl, sym, ap, subst, ◌∙◌}
-use mathlib.Core.Bool.{Bool, true, false}
+use mathlib.Core.Bool.{Bool}
 use mathlib.Core.List.{List, [], ◌∷◌, ◌++◌}
 use Prim.Native.Nat.{ℕ, ◌+◌, ◌*◌, ◌<◌, ◌≤◌}
 use native.Mathlib.Numerals.{add-one}
@@ -8,11 +8,11 @@ use native.Mathlib.Omega.{arith}
 use lib.ListN.{length, get_or, take, set, length-set}
 use lib.Seq.{get_or-set_other, get_or-set_same, take-suc, take_all}
 use borrow.Author.Tests.{eqb-true, eqb-false}
-use Rattle.laws.specs.Tests.{if◌then◌else◌, ◌==◌}
+use Rattle.std.specs.Prelude.{if◌then◌else◌, ◌==◌}
 use Rattle.laws.specs.Lists.{count, member, over}
 use Rattle.laws.specs.Sets.{remove}
 use Rattle.laws.specs.Words.{part}
-use Rattle.laws.proofs.Tests.{by_test, if_true, if_false}
+use Rattle.laws.proofs.Tests.{by_test, if_true}
 use Rattle.laws.proofs.Bags.{member_last, member_other}
 use Rattle.laws.proofs.Folds.{over-take}
 use Rattle.laws.proofs.Words.{part_length, part_at}

@@ -1,6 +1,5 @@
 -- The words that a split used, what clearing leaves of them, and what stays for the next split.
-use Rattle.std.specs.Prelude.{◌≡◌, List, ℕ, ◌+◌, ◌*◌, ◌<◌, ◌≤◌, length, get_or, set}
-use Rattle.laws.specs.Tests.{if◌then◌else◌}
+use Rattle.std.specs.Prelude.{◌≡◌, List, ℕ, ◌+◌, ◌*◌, ◌<◌, ◌≤◌, length, get_or, set, if◌then◌else◌}
 use Rattle.laws.specs.Lists.{count, member, over}
 use Rattle.laws.specs.Sets.{remove}
 use Rattle.laws.specs.Words.{part}

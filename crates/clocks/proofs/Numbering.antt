@@ -1,6 +1,6 @@
 -- The walks of all clock pins in step 1 order, in the code's shape.
 use mathlib.Core.Path.{◌≡◌, refl, sym, ◌∙◌, ap, ap₂}
-use mathlib.Core.Bool.{Bool, true, false, ◌||◌}
+use mathlib.Core.Bool.{Bool, true, false}
 use mathlib.Core.List.{List, [], ◌∷◌, ◌++◌}
 use Prim.Native.Nat.{ℕ, zero, suc, ◌+◌, ◌-◌, ◌*◌, ◌<◌, ◌≤◌}
 use native.Mathlib.Numerals.{add-one}
@@ -8,18 +8,18 @@ use native.Mathlib.Omega.{arith}
 use lib.ListN.{length, get_or, take, drop}
 use lib.Seq.{drop-cons, drop-length}
 use borrow.Author.Tests.{eq-eqb, ne_eqb}
-use Rattle.laws.specs.Tests.{if◌then◌else◌, ◌==◌, or_else}
+use Rattle.std.specs.Prelude.{◌==◌}
+use Rattle.laws.specs.Tests.{or_else}
 use Rattle.laws.specs.Lists.{keep, flat, upto}
 use Rattle.laws.specs.Words.{part}
 use Rattle.laws.proofs.Tests.{by_test, next-refused}
 use Rattle.laws.proofs.Bags.{flat-joined}
 use Rattle.laws.proofs.Words.{part_length, part_at}
-use Rattle.rules.specs.Netlist.{Netlist, Kind, kind_table, unfit, name_of, kind_of, pins_of, cells}
-use Rattle.rules.specs.Build.{Walk, still, root, gated, strange, far, walk, is_clock, clocks_of, clocks}
+use Rattle.rules.specs.Netlist.{Netlist, Kind, name_of, pins_of}
+use Rattle.rules.specs.Build.{Walk, still, root, gated, strange, far, walk, is_clock, clocks_of}
 use Rattle.rules.specs.Refusals.{walk_number, first_number, clocks_number}
-use Rattle.roles.specs.Reading.{tables, Fits, Laid, kind_at}
+use Rattle.roles.specs.Reading.{tables, Fits, kind_at}
 use Rattle.roles.proofs.Fitting.{laid, entry_inside}
-use Rattle.clocks.specs.declared.WalkEnd.{WalkEnd}
 use Rattle.clocks.specs.declared.Walked.{Walked}
 use Rattle.clocks.specs.Walks.{end_of, told, end_number, number_if, first_by, cell_number, Span}
 

@@ -7,16 +7,15 @@ use native.Mathlib.Numerals.{add-one}
 use native.Mathlib.Omega.{arith}
 use lib.ListN.{length, get_or}
 use borrow.Author.Tests.{eq-eqb, ne_eqb}
-use Rattle.laws.specs.Tests.{if◌then◌else◌, ◌==◌}
-use Rattle.laws.proofs.Tests.{by_test, true≢false}
+use Rattle.std.specs.Prelude.{if◌then◌else◌, ◌==◌}
+use Rattle.laws.proofs.Tests.{true≢false}
 use Rattle.laws.proofs.Bags.{here}
-use Rattle.laws.proofs.Indices.{snoc_length, snoc_at, snoc_cases}
+use Rattle.laws.proofs.Indices.{snoc_length, snoc_cases}
 use Rattle.laws.proofs.Words.{word_past}
 use Rattle.rules.specs.declared.Edge.{Edge}
 use Rattle.rules.specs.Netlist.{Netlist}
 use Rattle.rules.specs.Cells.{other_edge}
 use Rattle.rules.specs.Build.{Role, tied, wire, out_port, in_port, and_out, inv_out, buf_out, gate_out, dff_out, ram_out, nothing, role, Walk, still, root, gated, strange, far, ask_driver, ask_last, ask_pin, walk_by}
-use Rattle.rules.specs.Refusals.{walk_number}
 use Rattle.rules.proofs.Tables.{clash}
 use Rattle.rules.proofs.Roles.{visit_fits}
 use Rattle.roles.specs.declared.PinRole.{PinRole}
@@ -30,7 +29,7 @@ use Rattle.clocks.specs.declared.PinAsk.TheVariants.{Constant, Driver, Other}
 use Rattle.clocks.specs.declared.DriverAsk.{DriverAsk}
 use Rattle.clocks.specs.declared.DriverAsk.TheVariants.{Port, Inverted, Same, Gated, TooMany}
 use Rattle.clocks.specs.declared.DriverAsk.TheVariants as ask
-use Rattle.clocks.specs.Walks.{end_of, enables, told, end_number, pin_ask, ask_cell, or_too_many, driver_ask, plain, on_gate, driver_by}
+use Rattle.clocks.specs.Walks.{end_of, enables, told, pin_ask, ask_cell, or_too_many, driver_ask, plain, on_gate, driver_by}
 
 -- ---- what a role says
 pub asks_driver : (what : PinRole) (q : ℕ) → what ≡ Wire q → Driver q ≡ pin_ask (says what)

@@ -1,10 +1,9 @@
 -- What is told of a clock walk by value, and the steps of a walk as the two functions that ask each other take them.
-use Rattle.std.specs.Prelude.{◌≡◌, Bool, true, false, List, [], ◌∷◌, ◌++◌, ℕ, zero, suc, ◌+◌, ◌-◌, ◌<◌, ◌≤◌, length, get_or}
-use Rattle.laws.specs.Tests.{if◌then◌else◌, ◌==◌, or_else}
+use Rattle.std.specs.Prelude.{List, [], ◌∷◌, ◌++◌, ℕ, zero, suc, ◌+◌, ◌<◌, ◌≤◌, length, get_or, if◌then◌else◌, ◌==◌}
+use Rattle.laws.specs.Tests.{or_else}
 use Rattle.rules.specs.declared.Edge.{Edge}
 use Rattle.rules.specs.Netlist.{Netlist, Kind, name_of}
-use Rattle.rules.specs.Cells.{other_edge}
-use Rattle.rules.specs.Build.{Role, tied, wire, out_port, in_port, and_out, inv_out, buf_out, gate_out, dff_out, ram_out, nothing, role, Walk, still, root, gated, strange, far, ask_driver, ask_last, ask_pin, walk_by, walk, is_clock, clocks_of}
+use Rattle.rules.specs.Build.{Role, tied, wire, out_port, in_port, and_out, inv_out, buf_out, gate_out, dff_out, ram_out, nothing, role, Walk, still, root, gated, strange, far, ask_driver, ask_last, walk_by, walk, is_clock, clocks_of}
 use Rattle.rules.specs.Refusals.{walk_number, first_number}
 use Rattle.clocks.specs.declared.WalkEnd.{WalkEnd}
 use Rattle.clocks.specs.declared.WalkEnd.TheVariants.{Still, Root, Strange, Far}

@@ -6,7 +6,8 @@ use Prim.Native.Nat.{ℕ, zero, suc, ◌+◌, ◌-◌, ◌*◌, ◌≤◌, ◌<�
 use native.Mathlib.Omega.{arith}
 use lib.ListN.{length, get_or, get_or-eq_default}
 use borrow.Author.Tests.{ltb-true, ltb-false, leb-true, eqb-true}
-use Rattle.laws.specs.Tests.{if◌then◌else◌, ◌==◌, ◌<?◌, ◌≤?◌}
+use Rattle.std.specs.Prelude.{if◌then◌else◌, ◌==◌}
+use Rattle.laws.specs.Tests.{◌<?◌, ◌≤?◌}
 use Rattle.laws.specs.Lists.{count, every, flat}
 use Rattle.laws.proofs.Tests.{by_test, true≢false, and_l, and_r, if_elim, not_refused, last_refused}
 use Rattle.laws.proofs.Bags.{count-append, in_left, in_right, at_head, every_true}

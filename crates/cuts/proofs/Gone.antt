@@ -6,7 +6,8 @@ use mathlib.Core.List.{List, [], ◌∷◌, ◌++◌}
 use Prim.Native.Nat.{ℕ, ◌-◌, ◌≤◌, ◌<◌}
 use native.Mathlib.Omega.{arith}
 use borrow.Author.Tests.{eqb-true, eqb-false}
-use Rattle.laws.specs.Tests.{◌==◌, one}
+use Rattle.std.specs.Prelude.{◌==◌}
+use Rattle.laws.specs.Tests.{one}
 use Rattle.laws.specs.Lists.{count, member, keep, flat, over}
 use Rattle.laws.specs.Sets.{insert}
 use Rattle.laws.proofs.Tests.{by_test, one_eq, one_ne}

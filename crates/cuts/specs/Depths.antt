@@ -1,7 +1,7 @@
 -- How deep pins and endpoints lie in the whole graph, and which stage that means.
-use Rattle.std.specs.Prelude.{◌≡◌, List, [], ◌∷◌, ℕ, suc, ◌+◌, ◌≤◌, ◌<◌, max, get_or}
+use Rattle.std.specs.Prelude.{◌≡◌, List, [], ◌∷◌, ℕ, suc, ◌+◌, ◌≤◌, ◌<◌, max, get_or, if◌then◌else◌}
 use Rattle.std.proofs.Math.Option.{none}
-use Rattle.laws.specs.Tests.{if◌then◌else◌, ◌≤?◌}
+use Rattle.laws.specs.Tests.{◌≤?◌}
 use Rattle.laws.specs.Lists.{count}
 use Rattle.laws.specs.Search.{level}
 use Rattle.rules.specs.Graph.{Graph}

@@ -7,7 +7,8 @@ use mathlib.Core.Option.{Option, none, some}
 use Prim.Native.Nat.{ℕ, ◌+◌, ◌-◌, ◌≤◌, ◌<◌}
 use native.Mathlib.Omega.{arith}
 use borrow.Author.Tests.{ltb-true, leb-true, le-leb}
-use Rattle.laws.specs.Tests.{if◌then◌else◌, ◌<?◌, ◌≤?◌}
+use Rattle.std.specs.Prelude.{if◌then◌else◌}
+use Rattle.laws.specs.Tests.{◌<?◌, ◌≤?◌}
 use Rattle.laws.specs.Lists.{count, member, every, upto, is_nil}
 use Rattle.laws.specs.Search.{level}
 use Rattle.laws.proofs.Tests.{by_test, if_true, and_l, and_r}

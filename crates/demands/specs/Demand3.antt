@@ -10,9 +10,9 @@
 -- Pins and endpoints are numbers. `count x l` is how often x stands in the list l, so `0 < count x l` says that it is in it.
 -- It is proved in proofs/Demand3, for the tables of the calls in proofs/Demand3Calls; that it fails with equal levels is in
 -- proofs/EqualLevels, what such levels lose in proofs/Repeated, and that it speaks of something in proofs/Sharp.
-use Rattle.std.specs.Prelude.{◌≡◌, ◌↔◌, Bool, true, ◌&&◌, List, [], ◌∷◌, ◌++◌, map, ℕ, ◌+◌, ◌-◌, ◌≤◌, ◌<◌, length}
+use Rattle.std.specs.Prelude.{◌≡◌, ◌↔◌, Bool, true, ◌&&◌, List, [], ◌∷◌, ◌++◌, map, ℕ, ◌+◌, ◌-◌, ◌≤◌, ◌<◌, length, if◌then◌else◌}
 use Rattle.std.proofs.Math.Option.{Option, some}
-use Rattle.laws.specs.Tests.{if◌then◌else◌, ◌≤?◌}
+use Rattle.laws.specs.Tests.{◌≤?◌}
 use Rattle.laws.specs.Lists.{count, every, upto}
 use Rattle.rules.specs.Graph.{Graph, pin_count}
 use Rattle.rules.specs.Stages.{endpoint_count, reads, inputs, low, split, Row, stages}

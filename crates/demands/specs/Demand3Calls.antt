@@ -1,7 +1,6 @@
 -- Demand 3 of the calls: over the tables that they are given, and of the tables that they leave.
-use Rattle.std.specs.Prelude.{◌≡◌, true, List, [], ◌∷◌, ℕ, zero, suc, length, get_or, take, drop}
+use Rattle.std.specs.Prelude.{◌≡◌, true, List, [], ◌∷◌, ℕ, zero, suc, length, get_or, take, drop, if◌then◌else◌, ◌==◌}
 use Rattle.std.proofs.Math.Option.{Option, none, some}
-use Rattle.laws.specs.Tests.{if◌then◌else◌, ◌==◌}
 use Rattle.laws.specs.Lists.{upto}
 use Rattle.rules.specs.declared.GraphCounts.{GraphCounts}
 use Rattle.rules.specs.Graph.{Graph}

@@ -1,12 +1,13 @@
 -- What a step leaves, one law for each way through the code.
 use mathlib.Core.Path.{◌≡◌, refl, sym, ap, subst, ◌∙◌}
-use mathlib.Core.Bool.{Bool, true, false}
+use mathlib.Core.Bool.{true, false}
 use mathlib.Core.List.{List, [], ◌∷◌, ◌++◌}
 use Prim.Native.Nat.{ℕ, ◌+◌, ◌-◌, ◌*◌, ◌≤◌, ◌<◌}
 use native.Mathlib.Omega.{arith}
 use lib.ListN.{length, set}
 use borrow.Author.Tests.{eq-eqb, ne_eqb}
-use Rattle.laws.specs.Tests.{if◌then◌else◌, ◌==◌, one}
+use Rattle.std.specs.Prelude.{◌==◌}
+use Rattle.laws.specs.Tests.{one}
 use Rattle.laws.specs.Words.{SameBelow}
 use Rattle.laws.proofs.Tests.{by_test, true≢false}
 use Rattle.rules.specs.declared.Driver.{Driver}
@@ -24,7 +25,7 @@ use Rattle.builds.proofs.Ands.{and_keeps, and_longer}
 use Rattle.builds.proofs.Tallies.{and_only, gates_snoc}
 use Rattle.gates.specs.declared.AndMade.{AndMade}
 use Rattle.gates.specs.declared.AndMade.TheVariants.{Got, NoRoom}
-use Rattle.gates.specs.Step.{Ready, Grown, Full, Leaves, grown, full, Stepped}
+use Rattle.gates.specs.Step.{Ready, Grown, grown, full, Stepped}
 use Rattle.gates.proofs.Steps.{ready_store, ready_pin}
 use Rattle.drafts.specs.declared.Added.{Added}
 use Rattle.drafts.specs.Table.{Table, drafted, pushed, set_reset, gate_counted, SameEnds, Extends, made}

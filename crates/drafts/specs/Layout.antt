@@ -8,8 +8,8 @@
 --   7 * m        by netlist pin, its literal
 --   8 * m        by literal, 1 where it is among the outputs
 --   8 * m + 2 * r + 2   the index of known pairs
-use Rattle.std.specs.Prelude.{◌≡◌, List, ℕ, suc, ◌+◌, ◌*◌, ◌<◌, ◌≤◌, length, get_or}
-use Rattle.laws.specs.Tests.{if◌then◌else◌, ◌<?◌}
+use Rattle.std.specs.Prelude.{◌≡◌, List, ℕ, suc, ◌+◌, ◌*◌, ◌<◌, length, get_or, if◌then◌else◌}
+use Rattle.laws.specs.Tests.{◌<?◌}
 use Rattle.laws.specs.Lists.{member}
 use Rattle.laws.proofs.Indices.{place}
 use Rattle.rules.specs.declared.Edge.{Edge}

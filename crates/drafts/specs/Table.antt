@@ -1,6 +1,5 @@
 -- The driver table and the tallies of a graph in the making, and what a step leaves of them.
-use Rattle.std.specs.Prelude.{◌≡◌, Bool, true, false, List, [], ◌∷◌, ◌++◌, ℕ, ◌+◌, ◌*◌, ◌<◌, ◌≤◌, length}
-use Rattle.laws.specs.Tests.{if◌then◌else◌, ◌==◌}
+use Rattle.std.specs.Prelude.{◌≡◌, true, false, List, [], ◌∷◌, ◌++◌, ℕ, ◌*◌, ◌<◌, ◌≤◌, length, if◌then◌else◌, ◌==◌}
 use Rattle.laws.specs.Words.{SameBelow}
 use Rattle.rules.specs.declared.Driver.{Driver}
 use Rattle.rules.specs.declared.Tally.{Tally}

@@ -1,27 +1,25 @@
 -- From empty tables through all three steps, in the code's shape.
 use mathlib.Core.Path.{◌≡◌, refl, sym, ap, subst, ◌∙◌}
-use mathlib.Core.Bool.{Bool, true, false}
-use mathlib.Core.List.{List, [], ◌∷◌}
-use Prim.Native.Nat.{ℕ, ◌+◌, ◌*◌, ◌≤◌, ◌<◌}
+use mathlib.Core.Bool.{true, false}
+use mathlib.Core.List.{List}
+use Prim.Native.Nat.{ℕ, ◌+◌, ◌*◌, ◌≤◌}
 use native.Mathlib.Omega.{arith}
-use lib.ListN.{length, get_or}
-use Rattle.laws.specs.Words.{zeros, filled, SameBelow}
+use lib.ListN.{length}
+use Rattle.laws.specs.Words.{zeros, filled}
 use Rattle.laws.proofs.Tests.{true≢false}
 use Rattle.laws.proofs.Words.{zeros-length, filled-length}
 use Rattle.rules.specs.declared.Driver.{Driver}
-use Rattle.rules.specs.declared.Tally.{Tally}
 use Rattle.rules.specs.declared.Rooms.{Rooms}
 use Rattle.rules.specs.Netlist.{Netlist, size, cells}
-use Rattle.rules.specs.Build.{Build, step1, step2, step3, graph_of, tally, gate_count}
-use Rattle.rules.specs.Refusals.{Accepted, room_fits}
-use Rattle.roles.specs.Reading.{tables, Fits}
+use Rattle.rules.specs.Build.{step2, graph_of, tally, gate_count}
+use Rattle.rules.specs.Refusals.{room_fits}
+use Rattle.roles.specs.Reading.{tables}
 use Rattle.drivers.proofs.Rows.{drivers_long_lem}
 use Rattle.builds.proofs.Growing.{Keeps, keeps_refl}
 use Rattle.drafts.specs.declared.Counted.{Counted}
 use Rattle.drafts.specs.Table.{Table, drafted}
-use Rattle.drafts.specs.Layout.{index_at, Written}
 use Rattle.visits.specs.Drafting.{Sized, Drafting, Listed, Over, pins_over, outputs_over, dffs_over, rams_over, Moved, moved, stuck}
-use Rattle.activity.specs.Traced.{Ground, Going}
+use Rattle.activity.specs.Traced.{Going}
 use Rattle.ends.specs.Ended.{EndsDone, done, no_pins, no_rams, all_records, all_rows}
 use Rattle.results.proofs.Counts.{tally-kept}
 use Rattle.results.proofs.Rooms as rooms

@@ -1,13 +1,11 @@
 -- What three words say, one law for each way through the code.
-use mathlib.Core.Path.{◌≡◌, refl, sym, ap, ◌∙◌}
+use mathlib.Core.Path.{◌≡◌, sym, ap, ◌∙◌}
 use Prim.Native.Nat.{ℕ}
 use borrow.Author.Tests.{eq-eqb, ne_eqb}
-use Rattle.rules.specs.declared.Edge.TheVariants.{Rising, Falling}
 use Rattle.rules.specs.declared.Driver.{Driver}
-use Rattle.rules.specs.declared.Driver.TheVariants.{Flag, Port, Dff, Ram, Constant}
+use Rattle.rules.specs.declared.Driver.TheVariants.{Constant}
 use Rattle.rules.specs.declared.Decoded.{Decoded}
 use Rattle.rules.specs.declared.Decoded.TheVariants.{Is, Bad}
-use Rattle.rules.specs.Graph.{gate}
 use Rattle.rules.specs.Tables.{unused, flag_in, decode}
 
 pub unused_yes : (b : ℕ) (d : Driver) → b ≡ 0 → Is d ≡ unused b d

@@ -1,8 +1,8 @@
 -- What is written is read back, and every other row is as it was; a table that holds drivers holds one more after the next row is written.
 use mathlib.Core.Path.{◌≡◌, refl, sym, ap, subst, ◌∙◌}
-use mathlib.Core.List.{List, [], ◌∷◌, ◌++◌, map}
+use mathlib.Core.List.{List, [], ◌∷◌, ◌++◌}
 use mathlib.Core.Logic.{◌≢◌}
-use Prim.Native.Nat.{ℕ, zero, suc, ◌+◌, ◌*◌, ◌<◌, ◌≤◌}
+use Prim.Native.Nat.{ℕ, ◌+◌, ◌*◌, ◌<◌}
 use native.Mathlib.Omega.{arith}
 use lib.Dec.{ltb}
 use borrow.Author.Tests.{ltb-true, ltb-false}
@@ -11,12 +11,10 @@ use lib.Seq.{get_or-set_same, get_or-set_other, ext_get_or}
 use Rattle.laws.specs.Words.{ZeroFrom}
 use Rattle.laws.proofs.Tests.{by_test}
 use Rattle.laws.proofs.Ranges.{map-upto, length-map-upto}
-use Rattle.rules.specs.declared.Edge.{Edge}
 use Rattle.rules.specs.declared.Edge.TheVariants.{Rising, Falling}
 use Rattle.rules.specs.declared.Driver.{Driver}
 use Rattle.rules.specs.declared.Driver.TheVariants.{And, Port, Flag, Dff, Ram, Constant}
-use Rattle.rules.specs.declared.Decoded.{Decoded}
-use Rattle.rules.specs.declared.Decoded.TheVariants.{Is, Bad}
+use Rattle.rules.specs.declared.Decoded.TheVariants.{Is}
 use Rattle.rules.specs.Graph.{driver_at}
 use Rattle.rules.specs.Tables.{decode, decode_at, driver_or, drivers_in}
 use Rattle.drivers.specs.Written.{word_of, written, Holds}

@@ -5,8 +5,9 @@ use mathlib.Core.List.{List, [], ◌∷◌}
 use Prim.Native.Nat.{ℕ, zero, suc, ◌+◌, ◌-◌, ◌<◌, ◌≤◌}
 use native.Mathlib.Omega.{arith}
 use borrow.Author.Tests.{eqb-true, eqb-false, ltb-true, ltb-false}
-use Rattle.laws.specs.Tests.{◌==◌, ◌<?◌}
-use Rattle.laws.specs.Lists.{count, keep, any, over, upto, first_or, put}
+use Rattle.std.specs.Prelude.{◌==◌}
+use Rattle.laws.specs.Tests.{◌<?◌}
+use Rattle.laws.specs.Lists.{count, keep, over, upto, first_or, put}
 use Rattle.laws.specs.Sets.{insert}
 use Rattle.laws.proofs.Tests.{by_test, true≢false, or_cases, one_eq}
 use Rattle.laws.proofs.Bags.{here, there, put_same, put_other, keep_le, keep_true}

@@ -7,7 +7,8 @@ use native.Mathlib.Omega.{arith}
 use lib.ListN.{length, get_or, length-append, get_or-append}
 use lib.Seq.{get_or-append-add}
 use borrow.Author.Tests.{ltb-true, ltb-false, lt-ltb, eqb-true, eqb-false, eq-eqb, ne_eqb, leb-true, leb-false}
-use Rattle.laws.specs.Tests.{◌==◌, ◌<?◌, ◌≤?◌}
+use Rattle.std.specs.Prelude.{◌==◌}
+use Rattle.laws.specs.Tests.{◌<?◌, ◌≤?◌}
 use Rattle.laws.specs.Lists.{count, upto, first_or, member}
 use Rattle.laws.specs.Sets.{insert}
 use Rattle.laws.proofs.Tests.{by_test}

@@ -6,7 +6,8 @@ use native.Mathlib.Nat.{mul-suc}
 use native.Mathlib.Omega.{arith}
 use lib.ListN.{length, get_or, length-map}
 use borrow.Author.Tests.{ltb-true, ltb-false, lt-ltb, eqb-true, eqb-false}
-use Rattle.laws.specs.Tests.{if◌then◌else◌, ◌==◌, ◌<?◌}
+use Rattle.std.specs.Prelude.{if◌then◌else◌, ◌==◌}
+use Rattle.laws.specs.Tests.{◌<?◌}
 use Rattle.laws.specs.Lists.{count, flat}
 use Rattle.laws.specs.Words.{zeros, filled}
 use Rattle.laws.proofs.Tests.{by_test}

@@ -1,7 +1,7 @@
 -- One law for each way through the code.
-use mathlib.Core.Path.{◌≡◌, refl, sym, ap, subst, ◌∙◌}
+use mathlib.Core.Path.{◌≡◌, refl, ap, subst, ◌∙◌}
 use mathlib.Core.Bool.{true, false}
-use mathlib.Core.List.{List, [], ◌∷◌, ◌++◌}
+use mathlib.Core.List.{List}
 use Prim.Native.Nat.{ℕ, ◌+◌, ◌*◌, ◌≤◌, ◌<◌}
 use native.Mathlib.Omega.{arith}
 use lib.ListN.{length, get_or, set, length-set}
@@ -12,7 +12,7 @@ use Rattle.rules.specs.declared.Tally.{Tally}
 use Rattle.tallies.specs.Counted.{output_counted}
 use Rattle.drafts.specs.declared.Added.{Added}
 use Rattle.drafts.specs.declared.Counted.{Counted}
-use Rattle.drafts.specs.Table.{Table, drafted, pushed, SameEnds, Extends}
+use Rattle.drafts.specs.Table.{drafted, pushed, Extends}
 use Rattle.drafts.specs.Table as table
 use Rattle.numbers.specs.Numbering.{counted, numbered, flops_counted, rams_counted}
 use Rattle.entries.specs.Made.{own_words, data_words, FlopMade, flop, no_flop, RamMade, ram, no_ram_lem, OutputMade, known, new, no_output}

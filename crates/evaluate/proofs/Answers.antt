@@ -6,7 +6,8 @@ use Prim.Native.Nat.{ℕ, zero, suc, ◌+◌, ◌-◌}
 use native.Mathlib.Omega.{arith}
 use borrow.Author.Tests.{eqb-true, eq-eqb, ne_eqb}
 use lib.ListN.{length}
-use Rattle.laws.specs.Tests.{◌==◌, one}
+use Rattle.std.specs.Prelude.{◌==◌}
+use Rattle.laws.specs.Tests.{one}
 use Rattle.laws.specs.Words.{zeros, filled}
 use Rattle.laws.proofs.Tests.{and_l, and_r}
 use Rattle.laws.proofs.Ranges.{map-upto, length-map-upto}

@@ -7,7 +7,8 @@ use native.Mathlib.Omega.{arith}
 use borrow.Author.Tests.{eqb-true, eqb-false, lt-ltb, le-ltb}
 use lib.ListN.{length, get_or, set, length-set}
 use lib.Seq.{get_or-set_same, get_or-set_other}
-use Rattle.laws.specs.Tests.{◌==◌, one}
+use Rattle.std.specs.Prelude.{◌==◌}
+use Rattle.laws.specs.Tests.{one}
 use Rattle.laws.proofs.Tests.{by_test, one_le}
 use Rattle.rules.specs.Work.{turned}
 use Rattle.rules.specs.Answers.{source_of}

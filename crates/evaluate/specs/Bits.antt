@@ -1,6 +1,6 @@
 -- What an evaluation answers and leaves, and its bits as words.
-use Rattle.std.specs.Prelude.{◌≡◌, Bool, true, ◌&&◌, List, ℕ, ◌+◌, ◌-◌, ◌*◌, ◌/◌, ◌%◌, ◌<◌, ◌≤◌, length, get_or}
-use Rattle.laws.specs.Tests.{◌==◌, one}
+use Rattle.std.specs.Prelude.{◌≡◌, Bool, true, ◌&&◌, List, ℕ, ◌+◌, ◌-◌, ◌*◌, ◌/◌, ◌%◌, ◌<◌, ◌≤◌, length, get_or, ◌==◌}
+use Rattle.laws.specs.Tests.{one}
 use Rattle.rules.specs.declared.Done.{Done}
 use Rattle.rules.specs.Work.{bit}
 use Rattle.rules.specs.Tables.{held}

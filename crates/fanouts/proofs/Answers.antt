@@ -6,7 +6,8 @@ use Prim.Native.Nat.{ℕ, zero, suc, ◌+◌, ◌-◌, ◌*◌, ◌≤◌}
 use native.Mathlib.Omega.{arith}
 use borrow.Author.Tests.{eqb-true}
 use lib.ListN.{length}
-use Rattle.laws.specs.Tests.{◌==◌, ◌≤?◌, refuse}
+use Rattle.std.specs.Prelude.{◌==◌}
+use Rattle.laws.specs.Tests.{◌≤?◌, refuse}
 use Rattle.laws.specs.Words.{zeros}
 use Rattle.laws.proofs.Tests.{first_refused, next-refused}
 use Rattle.laws.proofs.Words.{zeros-length}

@@ -6,7 +6,8 @@ use native.Mathlib.Numerals.{add-one}
 use native.Mathlib.Omega.{arith}
 use borrow.Author.Tests.{ltb-true, ltb-false}
 use lib.ListN.{length, get_or, set, length-set}
-use Rattle.laws.specs.Tests.{◌==◌, ◌<?◌}
+use Rattle.std.specs.Prelude.{◌==◌}
+use Rattle.laws.specs.Tests.{◌<?◌}
 use Rattle.laws.specs.Lists.{count, over}
 use Rattle.laws.specs.Words.{zeros}
 use Rattle.laws.proofs.Tests.{by_test, one_le}

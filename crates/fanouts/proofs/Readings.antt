@@ -5,7 +5,8 @@ use Prim.Native.Nat.{ℕ, zero, suc, ◌+◌, ◌*◌, ◌<◌, ◌≤◌}
 use native.Mathlib.Omega.{arith}
 use borrow.Author.Tests.{eqb-true, eqb-false, eq-eqb, ne_eqb, ltb-true, ltb-false, lt-ltb, le-ltb}
 use lib.ListN.{length, length-append}
-use Rattle.laws.specs.Tests.{◌==◌, ◌<?◌, one}
+use Rattle.std.specs.Prelude.{◌==◌}
+use Rattle.laws.specs.Tests.{◌<?◌, one}
 use Rattle.laws.specs.Lists.{count, keep, flat, upto}
 use Rattle.laws.proofs.Tests.{by_test, if_true, if_false, one_eq, one_ne}
 use Rattle.laws.proofs.Bags.{count-append, at_head, here, there, flat-joined, of_flat}

@@ -1,6 +1,6 @@
 -- What the fanouts of a driver table are answered and left, and the state of the three passes that make them: count, sum up, fill from the back.
-use Rattle.std.specs.Prelude.{◌≡◌, Bool, List, [], ◌∷◌, map, ℕ, zero, suc, ◌+◌, ◌-◌, ◌*◌, ◌<◌, ◌≤◌, length, get_or, set}
-use Rattle.laws.specs.Tests.{if◌then◌else◌, ◌==◌, ◌≤?◌, refuse}
+use Rattle.std.specs.Prelude.{◌≡◌, Bool, List, [], ◌∷◌, map, ℕ, zero, suc, ◌+◌, ◌-◌, ◌*◌, ◌<◌, ◌≤◌, length, get_or, set, if◌then◌else◌, ◌==◌}
+use Rattle.laws.specs.Tests.{◌≤?◌, refuse}
 use Rattle.laws.specs.Lists.{count, keep, flat, upto}
 use Rattle.rules.specs.declared.Done.{Done}
 use Rattle.rules.specs.Build.{down_from, fanouts, fanout_starts, gate_count}

@@ -1,16 +1,15 @@
 -- One flag, in the code's shape.
 use mathlib.Core.Path.{◌≡◌, refl, sym, ap, subst, ◌∙◌}
-use mathlib.Core.Bool.{Bool, true, false}
+use mathlib.Core.Bool.{true, false}
 use mathlib.Core.List.{List, [], ◌∷◌, ◌++◌}
 use Prim.Native.Nat.{ℕ, ◌+◌, ◌*◌, ◌≤◌, ◌<◌}
 use native.Mathlib.Omega.{arith}
 use lib.ListN.{length, get_or, set, length-set}
 use lib.Seq.{get_or-set_other}
-use Rattle.laws.specs.Tests.{if◌then◌else◌}
-use Rattle.laws.proofs.Tests.{by_test, true≢false}
+use Rattle.laws.proofs.Tests.{true≢false}
 use Rattle.rules.specs.declared.Edge.{Edge}
 use Rattle.rules.specs.declared.Driver.{Driver}
-use Rattle.rules.specs.declared.Driver.TheVariants.{Flag, Constant}
+use Rattle.rules.specs.declared.Driver.TheVariants.{Flag}
 use Rattle.rules.specs.declared.Tally.{Tally}
 use Rattle.rules.specs.Graph.{driver_at, first_pin}
 use Rattle.rules.specs.Tables.{edge_word}
@@ -18,13 +17,12 @@ use Rattle.rules.specs.Build.{is_flag, flag_for}
 use Rattle.drivers.proofs.Rows.{drivers_long_lem, driver_old, one-longer}
 use Rattle.builds.proofs.Ands.{flag_self, flag_only, known_same}
 use Rattle.drafts.specs.declared.Added.{Added}
-use Rattle.drafts.specs.Table.{Table, drafted, pushed, SameEnds, Extends}
+use Rattle.drafts.specs.Table.{drafted, pushed, Extends}
 use Rattle.drafts.specs.Table as table
 use Rattle.drafts.specs.Layout.{flag_word, Flags}
 use Rattle.drafts.proofs.Steps.{ends_refl, table_store}
-use Rattle.drafts.specs.declared.Counted.{Counted}
 use Rattle.flags.specs.Flagging.{Flagging, FlagsOnly, Flagged, made, full}
-use Rattle.flags.proofs.Words.{edge_le, word_found, word_none, word_new, made_new, flags_more}
+use Rattle.flags.proofs.Words.{edge_le, word_found, word_none, made_new, flags_more}
 
 pub only_refl : (m at : ℕ) (w : List ℕ) → FlagsOnly m at w w
 only_refl m at w = record { long = refl; before = λ j l. refl; after = λ j l h. refl }

@@ -7,8 +7,7 @@ use native.Mathlib.Omega.{arith}
 use native.Mathlib.Numerals.{add-one}
 use lib.ListN.{length, get_or, take, drop}
 use lib.Seq.{take_all}
-use Rattle.laws.specs.Tests.{if◌then◌else◌}
-use Rattle.laws.specs.Lists.{over, keep, flat, upto}
+use Rattle.laws.specs.Lists.{over, keep, upto}
 use Rattle.laws.specs.Words.{part}
 use Rattle.laws.proofs.Tests.{by_test, true≢false}
 use Rattle.laws.proofs.Folds.{over-take, over-flat}
@@ -19,19 +18,18 @@ use Rattle.rules.specs.declared.Edge.TheVariants.{Rising}
 use Rattle.rules.specs.declared.Driver.{Driver}
 use Rattle.rules.specs.declared.Driver.TheVariants.{Constant}
 use Rattle.rules.specs.declared.Tally.{Tally}
-use Rattle.rules.specs.Netlist.{Netlist, Kind, size, cells, name_of, kind_of, pins_of}
-use Rattle.rules.specs.Graph.{driver_at, first_pin}
+use Rattle.rules.specs.Netlist.{Netlist, Kind, cells, name_of, pins_of}
+use Rattle.rules.specs.Graph.{driver_at}
 use Rattle.rules.specs.Tables.{edge_word}
-use Rattle.rules.specs.Build.{is_clock, clocks_of, clocks, walk, walk_by, flag_for, flag_of, step1}
+use Rattle.rules.specs.Build.{is_clock, clocks_of, walk, flag_for, flag_of, step1}
 use Rattle.roles.specs.Reading.{tables, Fits, kind_at}
-use Rattle.builds.proofs.Growing.{Keeps, keeps_refl, keeps_trans}
 use Rattle.builds.proofs.Steps.{flag_of_grows}
 use Rattle.clocks.specs.declared.WalkEnd.{WalkEnd}
 use Rattle.clocks.specs.declared.WalkEnd.TheVariants.{Still, Root, Strange, Far}
 use Rattle.clocks.specs.declared.Walked.{Walked}
-use Rattle.clocks.specs.Walks.{Span, end_of, told}
-use Rattle.drafts.specs.Table.{Table, drafted, SameEnds}
-use Rattle.drafts.specs.Layout.{flag_word, Flags}
+use Rattle.clocks.specs.Walks.{Span, told}
+use Rattle.drafts.specs.Table.{drafted}
+use Rattle.drafts.specs.Layout.{flag_word}
 use Rattle.drafts.proofs.Steps.{ends_refl, ends_trans}
 use Rattle.drafts.specs.declared.Counted.{Counted}
 use Rattle.flags.specs.Flagging.{Flagging, Flagged, made, full, Blank, PortWithin, flag_at, flag_if, flags_of}

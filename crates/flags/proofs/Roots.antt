@@ -1,6 +1,5 @@
 -- A clock walk that ends at a port ends at a pin of the netlist, and its flag is known by its end alone.
 use mathlib.Core.Path.{◌≡◌, refl, subst}
-use mathlib.Core.Bool.{Bool}
 use mathlib.Core.List.{List, [], ◌∷◌}
 use Prim.Native.Nat.{ℕ, zero, suc, ◌<◌}
 use Rattle.laws.specs.Lists.{count}
@@ -13,8 +12,7 @@ use Rattle.rules.specs.Build.{Role, tied, wire, out_port, in_port, and_out, inv_
 use Rattle.rules.specs.Refusals.{tables_number}
 use Rattle.rules.proofs.Tables.{clash}
 use Rattle.rules.proofs.Roles.{visit_fits}
-use Rattle.clocks.specs.declared.WalkEnd.{WalkEnd}
-use Rattle.clocks.specs.declared.WalkEnd.TheVariants.{Still, Root, Strange, Far}
+use Rattle.clocks.specs.declared.WalkEnd.TheVariants.{Root}
 use Rattle.clocks.specs.Walks.{end_of}
 use Rattle.flags.specs.Flagging.{flag_at, PortWithin}
 

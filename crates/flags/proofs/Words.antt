@@ -2,11 +2,12 @@
 use mathlib.Core.Path.{◌≡◌, refl, sym, ap, subst, ◌∙◌}
 use mathlib.Core.Bool.{Bool, true, false}
 use mathlib.Core.List.{List, [], ◌∷◌, ◌++◌}
-use Prim.Native.Nat.{ℕ, zero, suc, ◌+◌, ◌*◌, ◌≤◌, ◌<◌}
+use Prim.Native.Nat.{ℕ, suc, ◌+◌, ◌*◌, ◌≤◌, ◌<◌}
 use native.Mathlib.Omega.{arith}
-use lib.ListN.{length, get_or, set}
+use lib.ListN.{length, set}
 use borrow.Author.Tests.{lt-ltb, le-ltb, ltb-true, ltb-false}
-use Rattle.laws.specs.Tests.{if◌then◌else◌, ◌<?◌}
+use Rattle.std.specs.Prelude.{if◌then◌else◌}
+use Rattle.laws.specs.Tests.{◌<?◌}
 use Rattle.laws.proofs.Tests.{by_test, true≢false}
 use Rattle.laws.proofs.Words.{get_d_set}
 use Rattle.rules.specs.declared.Edge.{Edge}
@@ -16,9 +17,8 @@ use Rattle.rules.specs.declared.Driver.TheVariants.{Flag, Constant}
 use Rattle.rules.specs.Graph.{driver_at, first_pin}
 use Rattle.rules.specs.Tables.{edge_word}
 use Rattle.rules.specs.Build.{is_flag, flag_for}
-use Rattle.rules.proofs.Tables.{clash}
 use Rattle.drivers.proofs.Rows.{one-longer}
-use Rattle.builds.proofs.Ands.{first_le, first_found, known_same, flag_self, flag_only}
+use Rattle.builds.proofs.Ands.{first_found, flag_self, flag_only}
 use Rattle.drafts.specs.Layout.{flag_word, Flags}
 
 pub edge_le : (e : Edge) → edge_word e ≤ 1

@@ -1,26 +1,27 @@
 -- The marked pins match the drivers exactly where the records' pins are one for one those of such drivers.
-use mathlib.Core.Path.{◌≡◌, refl, sym, ap, ap₂, subst, ◌∙◌}
+use mathlib.Core.Path.{◌≡◌, refl, sym, ap, ◌∙◌}
 use mathlib.Core.Bool.{Bool, true, false, ◌&&◌}
-use mathlib.Core.List.{List, [], ◌∷◌, ◌++◌, map}
+use mathlib.Core.List.{List}
 use Prim.Native.Nat.{ℕ, zero, suc, ◌+◌, ◌-◌, ◌*◌, ◌≤◌, ◌<◌}
 use native.Mathlib.Omega.{arith}
 use lib.ListN.{length, get_or}
-use borrow.Author.Tests.{lt-ltb, ltb-true, le-leb, leb-true, eq-eqb, ne_eqb, eqb-true, eqb-false}
-use Rattle.laws.specs.Tests.{◌==◌, ◌<?◌, ◌≤?◌, one, same}
+use borrow.Author.Tests.{lt-ltb, le-leb, leb-true, eq-eqb, eqb-true}
+use Rattle.std.specs.Prelude.{◌==◌}
+use Rattle.laws.specs.Tests.{◌<?◌, ◌≤?◌, one, same}
 use Rattle.laws.specs.Lists.{count, member, every, upto}
-use Rattle.laws.proofs.Tests.{by_test, true≢false, and_l, and_r, both_true, one_le, one_eq}
-use Rattle.laws.proofs.Bags.{every_true, every_all, member_true, is_member, member_false, no_member}
-use Rattle.laws.proofs.Ranges.{of_upto, every_upto, in_upto}
+use Rattle.laws.proofs.Tests.{by_test, true≢false, and_l, and_r, both_true, one_le}
+use Rattle.laws.proofs.Bags.{every_true, every_all, member_true, member_false}
+use Rattle.laws.proofs.Ranges.{of_upto, every_upto}
 use Rattle.rules.specs.declared.Driver.{Driver}
 use Rattle.rules.specs.declared.Driver.TheVariants.{And, Port, Flag, Dff, Ram, Constant}
 use Rattle.rules.specs.declared.Decoded.{Decoded}
 use Rattle.rules.specs.declared.Decoded.TheVariants.{Is, Bad}
 use Rattle.rules.specs.Graph.{driver_at}
-use Rattle.rules.specs.Tables.{decode, decode_at, driver_or, drivers_in}
+use Rattle.rules.specs.Tables.{decode_at, driver_or, drivers_in}
 use Rattle.rules.specs.Refusals.{below, no_repeat, driver_fits, drivers_fit, is_dff, is_ram}
-use Rattle.laws.proofs.Ranges.{map-upto, length-map-upto}
+use Rattle.laws.proofs.Ranges.{map-upto}
 use Rattle.drivers.specs.Written.{word_of}
-use Rattle.drivers.proofs.Said.{Words, said}
+use Rattle.drivers.proofs.Said.{said}
 use Rattle.drivers.proofs.Rows.{drivers_long_lem}
 use Rattle.marks.specs.Marking.{Marks, MarkedAll, a_set, no_set}
 use Rattle.graphs.specs.Parts.{mark_matches, marks_match, pins_match, Compared}

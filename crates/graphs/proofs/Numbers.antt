@@ -6,16 +6,16 @@ use Prim.Native.Nat.{ℕ, zero, suc, ◌+◌, ◌*◌, ◌≤◌, ◌<◌}
 use native.Mathlib.Omega.{arith}
 use lib.ListN.{length, get_or}
 use borrow.Author.Tests.{lt-leb, le-leb, leb-true, eq-eqb, ne_eqb, eqb-true}
-use Rattle.laws.specs.Tests.{◌==◌, ◌≤?◌, or_else, refuse}
+use Rattle.std.specs.Prelude.{◌==◌}
+use Rattle.laws.specs.Tests.{◌≤?◌}
 use Rattle.laws.specs.Words.{zeros}
 use Rattle.laws.proofs.Tests.{and_l, and_r}
 use Rattle.laws.proofs.Words.{zeros_at, zeros-length}
 use Rattle.rules.specs.declared.GraphCounts.{GraphCounts}
 use Rattle.rules.specs.declared.Done.TheVariants.{Accepted, Refused}
 use Rattle.rules.specs.Bounds.{graph_within, stage_work}
-use Rattle.rules.specs.Refusals.{drivers_fit, records_fit}
-use Rattle.rules.specs.Tables.{graph_in}
-use Rattle.rules.specs.Answers.{graph_fits, graph_number, done_of, check_graph_number}
+use Rattle.rules.specs.Refusals.{drivers_fit}
+use Rattle.rules.specs.Answers.{graph_fits, graph_number, done_of}
 use Rattle.marks.specs.Marking.{Clear}
 use Rattle.graphs.specs.Parts.{Rows, records_ok, lent, long_by, Fitting}
 use Rattle.graphs.proofs.Records.{in_order}

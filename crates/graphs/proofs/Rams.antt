@@ -2,12 +2,11 @@
 use mathlib.Core.Path.{◌≡◌, sym, subst}
 use mathlib.Core.Bool.{Bool, true, false}
 use mathlib.Core.List.{List}
-use Prim.Native.Nat.{ℕ, ◌+◌, ◌*◌, ◌/◌, ◌%◌, ◌≤◌, ◌<◌}
+use Prim.Native.Nat.{ℕ, ◌+◌, ◌*◌, ◌≤◌, ◌<◌}
 use native.Mathlib.Omega.{arith}
-use lib.ListN.{get_or}
 use borrow.Author.Tests.{lt-ltb, le-ltb}
 use Rattle.laws.specs.Tests.{◌<?◌}
-use Rattle.marks.specs.Marking.{Marked, MarkedAll}
+use Rattle.marks.specs.Marking.{MarkedAll}
 use Rattle.marks.proofs.Picking.{Picking, pick_skips, pick_goes_on, pick_fails, pick_ends}
 use Rattle.laws.proofs.Tests.{true≢false}
 use Rattle.graphs.specs.Parts.{read_word, ram_pins_in, Presented, absent, there}

@@ -1,20 +1,20 @@
 -- What the code tests, one part after the other, is what refusal 12 says of records, outputs and literals.
-use mathlib.Core.Path.{◌≡◌, refl, sym, ap, ap₂, subst, ◌∙◌}
+use mathlib.Core.Path.{◌≡◌, refl, sym, ap, ◌∙◌}
 use mathlib.Core.Bool.{Bool, true, false, ◌&&◌}
 use mathlib.Core.List.{List, [], ◌∷◌, ◌++◌, map}
-use Prim.Native.Nat.{ℕ, zero, suc, ◌+◌, ◌-◌, ◌*◌, ◌/◌, ◌%◌, ◌≤◌, ◌<◌}
+use Prim.Native.Nat.{ℕ, zero, suc, ◌+◌, ◌-◌, ◌*◌, ◌/◌, ◌%◌, ◌<◌}
 use native.Mathlib.Omega.{arith}
 use lib.ListN.{length, get_or}
-use borrow.Author.Tests.{lt-ltb, le-ltb, le-leb, lt-leb, leb-true, leb-false}
-use Rattle.laws.specs.Tests.{◌==◌, ◌<?◌, ◌≤?◌, one}
-use Rattle.laws.specs.Lists.{count, every, keep, flat, upto}
+use borrow.Author.Tests.{lt-ltb, le-ltb, leb-true, leb-false}
+use Rattle.laws.specs.Tests.{◌<?◌, ◌≤?◌}
+use Rattle.laws.specs.Lists.{every, keep, flat, upto}
 use Rattle.laws.proofs.Tests.{by_test}
-use Rattle.laws.proofs.Bags.{every_append, flat-joined, map-append, keep_append, map_same}
+use Rattle.laws.proofs.Bags.{every_append, flat-joined, map-append, map_same}
 use Rattle.laws.proofs.Ranges.{in_upto}
 use Rattle.rules.specs.declared.GraphCounts.{GraphCounts}
 use Rattle.rules.specs.declared.Record.{Record}
 use Rattle.rules.specs.Graph.{pin_of, RamRow}
-use Rattle.rules.specs.Tables.{drivers_in, record_in, ram_in, words_from, GraphWords, graph_in}
+use Rattle.rules.specs.Tables.{drivers_in, record_in, ram_in, words_from, graph_in}
 use Rattle.rules.specs.Refusals.{below, no_repeat, is_dff, is_ram, ram_literals, records_fit}
 use Rattle.drivers.proofs.Rows.{drivers_long_lem}
 use Rattle.graphs.specs.Parts.{dff_pins_in, read_word, ram_pins_in, pins_fit, dff_literals_fit, ram_row_fits, ram_literals_fit, pins_match, pins_ok, records_ok}

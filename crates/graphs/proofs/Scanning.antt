@@ -1,11 +1,12 @@
 -- The tests of single words, in the code's shape.
 use mathlib.Core.Path.{◌≡◌, refl, sym, ap, ◌∙◌}
-use mathlib.Core.Bool.{Bool, true, false, not, ◌&&◌}
+use mathlib.Core.Bool.{Bool, true, false, not}
 use mathlib.Core.List.{List}
 use Prim.Native.Nat.{ℕ, ◌+◌, ◌≤◌, ◌<◌}
 use lib.ListN.{get_or}
 use borrow.Author.Tests.{eq-eqb, ne_eqb, lt-leb, le-leb}
-use Rattle.laws.specs.Tests.{◌==◌, ◌≤?◌, same}
+use Rattle.std.specs.Prelude.{◌==◌}
+use Rattle.laws.specs.Tests.{◌≤?◌, same}
 use Rattle.rules.specs.Graph.{pin_of}
 use Rattle.graphs.specs.Parts.{pins_fit, ram_row_fits}
 

@@ -1,10 +1,10 @@
 -- The parts put together, in the code's shape.
 use mathlib.Core.Path.{◌≡◌, refl, sym, ap, ◌∙◌}
-use mathlib.Core.Bool.{Bool, true, false, ◌&&◌}
+use mathlib.Core.Bool.{Bool, true, false}
 use mathlib.Core.List.{List}
 use Prim.Native.Nat.{ℕ, ◌+◌, ◌*◌, ◌≤◌, ◌<◌}
 use native.Mathlib.Omega.{arith}
-use lib.ListN.{length, get_or}
+use lib.ListN.{get_or}
 use Rattle.laws.proofs.Tests.{true≢false}
 use Rattle.rules.specs.Refusals.{is_dff, is_ram}
 use Rattle.rules.specs.Tables.{drivers_in}

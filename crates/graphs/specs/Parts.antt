@@ -1,6 +1,6 @@
 -- The parts of refusal 12 as the code reads them off the words.
-use Rattle.std.specs.Prelude.{◌≡◌, Bool, true, false, ◌&&◌, List, [], ◌∷◌, map, ℕ, ◌+◌, ◌-◌, ◌*◌, ◌/◌, ◌%◌, ◌≤◌, length, get_or}
-use Rattle.laws.specs.Tests.{◌==◌, ◌<?◌, ◌≤?◌, same, one}
+use Rattle.std.specs.Prelude.{◌≡◌, Bool, true, ◌&&◌, List, map, ℕ, ◌+◌, ◌-◌, ◌*◌, ◌/◌, ◌%◌, ◌≤◌, length, get_or, ◌==◌}
+use Rattle.laws.specs.Tests.{◌<?◌, ◌≤?◌, same, one}
 use Rattle.laws.specs.Lists.{count, every, keep, upto}
 use Rattle.rules.specs.declared.Driver.{Driver}
 use Rattle.rules.specs.Graph.{pin_of, driver_at}

@@ -1,8 +1,8 @@
 // The graph check: what refusal 12 asks of records, outputs and their literals, in linear time.
 #![tactic(auto)]
 
-ghost use Rattle.std.specs.Prelude.{◌≡◌, true, ◌&&◌, ℕ, ◌+◌, ◌*◌, ◌<◌, ◌≤◌, length, get_or, replicate};
-ghost use Rattle.laws.specs.Tests.{◌==◌, same};
+ghost use Rattle.std.specs.Prelude.{◌≡◌, true, ◌&&◌, ℕ, ◌+◌, ◌*◌, ◌<◌, ◌≤◌, length, get_or, replicate, ◌==◌};
+ghost use Rattle.laws.specs.Tests.{same};
 ghost use Rattle.marks.specs.Marking.{Clear, MarkedAll};
 ghost use Rattle.rules.specs.Refusals.{drivers_fit, is_dff, is_ram};
 ghost use Rattle.rules.specs.Tables.{drivers_in};

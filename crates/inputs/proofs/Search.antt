@@ -1,13 +1,14 @@
 -- The search in the code's shape.
-use mathlib.Core.Path.{◌≡◌, refl, sym, ap, subst, ◌∙◌}
-use mathlib.Core.Bool.{Bool, true, false, ◌&&◌}
+use mathlib.Core.Path.{◌≡◌, sym, ap, ◌∙◌}
+use mathlib.Core.Bool.{Bool, true, false}
 use mathlib.Core.List.{List, [], ◌∷◌, ◌++◌, map}
-use Prim.Native.Nat.{ℕ, zero, suc, ◌+◌, ◌*◌, ◌/◌, ◌≤◌, ◌<◌}
+use Prim.Native.Nat.{ℕ, suc, ◌+◌, ◌*◌, ◌/◌, ◌≤◌, ◌<◌}
 use native.Mathlib.Omega.{arith}
 use lib.ListN.{length, get_or, take, drop, length-append, take-append-drop, get_or-eq_default}
 use lib.Seq.{drop-cons, get_or_at}
-use borrow.Author.Tests.{lt-ltb, le-ltb, eq-eqb, ne_eqb, ltb-true, eqb-true}
-use Rattle.laws.specs.Tests.{◌==◌, ◌<?◌, one}
+use borrow.Author.Tests.{lt-ltb, le-ltb, eq-eqb, ne_eqb, eqb-true}
+use Rattle.std.specs.Prelude.{◌==◌}
+use Rattle.laws.specs.Tests.{◌<?◌, one}
 use Rattle.laws.specs.Lists.{keep}
 use Rattle.laws.proofs.Tests.{by_test, true≢false, and_l, and_r}
 use Rattle.laws.proofs.Bags.{map-append, keep_append}
@@ -16,7 +17,7 @@ use Rattle.rules.specs.Graph.{pin_of}
 use Rattle.rules.specs.Stages.{inputs_of}
 use Rattle.rules.specs.Answers.{endpoints}
 use Rattle.reads.specs.Reads.{Lent, reads_in, ins_of, ins_to, reads_long}
-use Rattle.reads.proofs.Inputs.{ins_none, reads-length, ins_step, ins_to_few, ins_all, long_few}
+use Rattle.reads.proofs.Inputs.{ins_none, reads-length, ins_step, ins_all, long_few}
 use Rattle.inputs.specs.Counting.{wanted, passed, ends_by}
 
 -- ---- the tests

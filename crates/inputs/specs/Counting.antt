@@ -1,6 +1,6 @@
 -- The search for an input, one literal after the other.
-use Rattle.std.specs.Prelude.{Bool, not, ◌&&◌, ℕ, ◌*◌, List}
-use Rattle.laws.specs.Tests.{◌==◌, ◌<?◌, one}
+use Rattle.std.specs.Prelude.{Bool, ◌&&◌, ℕ, ◌*◌, List, ◌==◌}
+use Rattle.laws.specs.Tests.{◌<?◌, one}
 use Rattle.rules.specs.declared.GraphCounts.{GraphCounts}
 use Rattle.rules.specs.Stages.{Stage}
 

@@ -1,8 +1,8 @@
 -- Pins that join, with what their gates read.
 use mathlib.Core.Path.{◌≡◌, refl, sym, ap, subst, ◌∙◌}
-use mathlib.Core.Bool.{Bool, true, false}
+use mathlib.Core.Bool.{Bool}
 use mathlib.Core.List.{List, [], ◌∷◌, ◌++◌}
-use Prim.Native.Nat.{ℕ, suc, ◌+◌, ◌-◌, ◌*◌, ◌<◌, ◌≤◌}
+use Prim.Native.Nat.{ℕ, ◌+◌, ◌*◌, ◌<◌, ◌≤◌}
 use native.Mathlib.Numerals.{add-one}
 use native.Mathlib.Omega.{arith}
 use lib.ListN.{length, get_or, take}
@@ -11,10 +11,9 @@ use borrow.Author.Tests.{le-leb, lt-leb}
 use Rattle.laws.specs.Tests.{◌≤?◌}
 use Rattle.laws.specs.Lists.{count, over}
 use Rattle.laws.specs.Sets.{insert}
-use Rattle.laws.specs.Words.{part}
 use Rattle.laws.proofs.Folds.{over-append, over-same}
 use Rattle.laws.proofs.Words.{part_length, part_at}
-use Rattle.rules.specs.Stages.{Joining, read}
+use Rattle.rules.specs.Stages.{read}
 use Rattle.cuts.proofs.Joining.{begun, join_by, join_yes, join_no}
 use Rattle.walk.specs.State.{goes, list_of, Going}
 use Rattle.members.specs.Set.{Within, SetIn, Inserted}
@@ -143,7 +142,7 @@ module _ (ws : List ℕ) (m d : ℕ) (w₀ : List ℕ) (k : ℕ) (w : List ℕ) 
         joins = λ j h. subst (Holds m w' n') (sym (ap (over (join_by nx (low_in m w₀ d)) j) done_is ∙ over-append (join_by nx (low_in m w₀ d)) j (take i (list_of w₀ m k)) (u ∷ [])
             ∙ over-same (join_by nx (low_in m w₀ d)) (join_by nx (low_in m w d)) (u ∷ []) (over (join_by nx (low_in m w₀ d)) j (take i (list_of w₀ m k)))
             (λ s' v mv. Rattle.laws.proofs.Bags.at_head v u [] mv
-            (λ ev. ap (λ (b : Bool). Rattle.laws.specs.Tests.if◌then◌else◌ b (over read (begun s' v) (nx v)) s') (ap (λ (y : ℕ). y ≤? d) (sym (level-kept v (omega (arith, joins_inside))))))
+            (λ ev. ap (λ (b : Bool). Rattle.std.specs.Prelude.if◌then◌else◌ b (over read (begun s' v) (nx v)) s') (ap (λ (y : ℕ). y ≤? d) (sym (level-kept v (omega (arith, joins_inside))))))
             (λ z. absurd (omega arith)))))
             (r.joins (over (join_by nx (low_in m w₀ d)) j (take i (list_of w₀ m k))) (s.done.joins j h));
         kept = within_on (5 * m) (8 * m) w₀ w w' s.done.kept r.kept;

@@ -1,26 +1,25 @@
 -- Readers that are done, of one pin, of an endpoint, of all endpoints taken.
 use mathlib.Core.Path.{◌≡◌, refl, sym, ap, subst, ◌∙◌}
-use mathlib.Core.Bool.{Bool, true, false}
 use mathlib.Core.List.{List, [], ◌∷◌, ◌++◌, append-nil}
-use Prim.Native.Nat.{ℕ, suc, ◌+◌, ◌-◌, ◌*◌, ◌/◌, ◌<◌, ◌≤◌}
+use Prim.Native.Nat.{ℕ, ◌+◌, ◌-◌, ◌*◌, ◌/◌, ◌<◌, ◌≤◌}
 use native.Mathlib.Numerals.{add-one}
 use native.Mathlib.Omega.{arith}
 use lib.ListN.{length, get_or, take, set, length-set}
 use lib.Seq.{get_or-set_other, take-suc, take_all}
 use borrow.Author.Tests.{lt-ltb, eq-eqb, ne_eqb}
-use Rattle.laws.specs.Tests.{if◌then◌else◌, ◌==◌, ◌<?◌, one}
+use Rattle.std.specs.Prelude.{◌==◌}
+use Rattle.laws.specs.Tests.{one}
 use Rattle.laws.specs.Lists.{count, flat, over}
 use Rattle.laws.specs.Sets.{remove}
 use Rattle.laws.specs.Words.{part}
 use Rattle.laws.proofs.Tests.{one_eq, one_ne}
 use Rattle.laws.proofs.Bags.{flat-joined}
 use Rattle.laws.proofs.Folds.{over-append}
-use Rattle.laws.proofs.Sets.{Placed}
 use Rattle.laws.proofs.Words.{get_d_set, part-before, part_length, part_at}
 use Rattle.rules.specs.declared.GraphCounts.{GraphCounts}
-use Rattle.rules.specs.Stages.{Joining, read}
+use Rattle.rules.specs.Stages.{read}
 use Rattle.rules.specs.Answers.{endpoints}
-use Rattle.members.specs.Set.{Within, SetIn, Removed}
+use Rattle.members.specs.Set.{SetIn, Removed}
 use Rattle.members.proofs.Frames.{within_none, within_on, within_more, within-set}
 use Rattle.reads.specs.Reads.{Lent, reads_in, reads_long, ins_of, ins_to}
 use Rattle.reads.proofs.Inputs.{ins_none, ins_step, ins_all}

@@ -1,5 +1,5 @@
 -- How the work words hold the set and the readers of the rules' `Joining`, and what reading and joining leave.
-use Rattle.std.specs.Prelude.{◌≡◌, Bool, List, [], ◌∷◌, ℕ, ◌+◌, ◌*◌, ◌<◌, ◌≤◌, length, get_or}
+use Rattle.std.specs.Prelude.{◌≡◌, Bool, List, ℕ, ◌+◌, ◌*◌, ◌<◌, ◌≤◌, length, get_or}
 use Rattle.laws.specs.Tests.{◌≤?◌}
 use Rattle.laws.specs.Lists.{over}
 use Rattle.laws.specs.Words.{part}

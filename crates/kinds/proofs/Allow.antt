@@ -2,16 +2,17 @@
 use mathlib.Core.Path.{◌≡◌, refl, sym, ap, ◌∙◌}
 use mathlib.Core.Bool.{Bool, true, false, not, ◌&&◌, ◌||◌}
 use mathlib.Core.List.{List, [], ◌∷◌}
-use Prim.Native.Nat.{ℕ, zero, suc, ◌+◌, ◌*◌, ◌/◌, ◌%◌, ◌≤◌, ◌<◌, max}
+use Prim.Native.Nat.{ℕ, ◌+◌, ◌*◌, ◌/◌, ◌%◌, ◌≤◌, ◌<◌}
 use native.Mathlib.Omega.{arith}
 use lib.ListN.{get_or}
 use borrow.Author.Tests.{eq-eqb, ne_eqb, le-ltb, lt-ltb, eqb-true, leb-true}
-use Rattle.laws.specs.Tests.{if◌then◌else◌, ◌==◌, ◌<?◌, ◌≤?◌, one, same}
-use Rattle.laws.specs.Lists.{any, every, keep, upto}
+use Rattle.std.specs.Prelude.{◌==◌}
+use Rattle.laws.specs.Tests.{◌<?◌, ◌≤?◌, one, same}
+use Rattle.laws.specs.Lists.{any, every, upto}
 use Rattle.laws.proofs.Tests.{by_test, and_l, and_r, one_le}
 use Rattle.laws.proofs.Ranges.{of_upto}
-use Rattle.rules.specs.Netlist.{Slot, slots, Kind, kind_table, unfit}
-use Rattle.kinds.specs.Slots.{slots_named, most_bits, word_of, word_by, kind_word, slot_allows}
+use Rattle.rules.specs.Netlist.{Slot, slots, kind_table, unfit}
+use Rattle.kinds.specs.Slots.{slots_named, most_bits, word_of, kind_word, slot_allows}
 
 -- ---- pins with a name
 abbrev fits : Bool → ℕ → ℕ → Slot → Bool

@@ -1,12 +1,11 @@
 -- The table has the rule at each entry: one test over the whole table.
-use mathlib.Core.Path.{◌≡◌, ap, ◌∙◌}
+use mathlib.Core.Path.{◌≡◌, ◌∙◌}
 use mathlib.Core.Bool.{Bool}
 use mathlib.Core.List.{List, [], ◌∷◌}
 use Prim.Native.Nat.{ℕ, ◌+◌, ◌*◌, ◌/◌, ◌%◌, ◌<◌}
 use native.Mathlib.Omega.{arith}
-use lib.Dec.{T, eqb, eqb→eq}
-use lib.ListN.{length, get_or}
-use Rattle.laws.specs.Tests.{◌==◌}
+use lib.ListN.{get_or}
+use Rattle.std.specs.Prelude.{◌==◌}
 use Rattle.laws.specs.Lists.{every, upto}
 use Rattle.laws.proofs.Ranges.{of_upto}
 use borrow.Author.Tests.{eqb-true}

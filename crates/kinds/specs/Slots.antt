@@ -1,6 +1,6 @@
 -- What the rules' pins of a kind come to as one word a name, and what such a word allows.
-use Rattle.std.specs.Prelude.{Bool, true, false, not, ◌&&◌, ◌||◌, List, [], ◌∷◌, ℕ, ◌+◌, ◌*◌, ◌/◌, ◌%◌, max, get_or}
-use Rattle.laws.specs.Tests.{if◌then◌else◌, ◌==◌, ◌<?◌, one}
+use Rattle.std.specs.Prelude.{Bool, not, ◌&&◌, List, [], ◌∷◌, ℕ, ◌+◌, ◌*◌, ◌/◌, ◌%◌, max, get_or, if◌then◌else◌, ◌==◌}
+use Rattle.laws.specs.Tests.{◌<?◌, one}
 use Rattle.laws.specs.Lists.{any, keep}
 use Rattle.rules.specs.Netlist.{Slot, slots, Kind, top, and2, inv, buf, dff, clock_gate, ram, unfit, kind_table}
 

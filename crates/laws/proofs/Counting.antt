@@ -8,7 +8,8 @@ use native.Mathlib.Numerals.{add-one}
 use native.Mathlib.Omega.{arith}
 use lib.ListN.{length}
 use borrow.Author.Tests.{eqb-true, eqb-false, not-true}
-use Rattle.laws.specs.Tests.{◌==◌, one}
+use Rattle.std.specs.Prelude.{◌==◌}
+use Rattle.laws.specs.Tests.{one}
 use Rattle.laws.specs.Lists.{count, member, keep}
 use Rattle.laws.specs.Words.{count_below, AllBelow}
 use Rattle.laws.proofs.Tests.{by_test, one_le, and_l, and_r, and-false}

@@ -6,7 +6,8 @@ use Prim.Native.Nat.{ℕ, zero, suc, ◌+◌, ◌≤◌, ◌<◌}
 use native.Mathlib.Omega.{arith}
 use lib.ListN.{length}
 use borrow.Author.Tests.{ltb-true, ltb-false, eqb-true, eqb-false, eq-eqb}
-use Rattle.laws.specs.Tests.{◌==◌, ◌<?◌}
+use Rattle.std.specs.Prelude.{◌==◌}
+use Rattle.laws.specs.Tests.{◌<?◌}
 use Rattle.laws.specs.Lists.{count, member, over}
 use Rattle.laws.specs.Search.{Event, entered, left, explore, Chain}
 use Rattle.laws.specs.Search.Event.{enter, leave}

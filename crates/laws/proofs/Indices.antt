@@ -7,7 +7,8 @@ use native.Mathlib.Omega.{arith}
 use lib.ListN.{length, get_or, length-append, get_or-append, get_or-eq_default}
 use lib.Seq.{get_or-append_seam}
 use borrow.Author.Tests.{ltb-true, ltb-false, eqb-true, eqb-false}
-use Rattle.laws.specs.Tests.{if◌then◌else◌, ◌==◌, ◌<?◌}
+use Rattle.std.specs.Prelude.{if◌then◌else◌, ◌==◌}
+use Rattle.laws.specs.Tests.{◌<?◌}
 use Rattle.laws.specs.Lists.{count, every}
 use Rattle.laws.proofs.Tests.{by_test, true≢false, one_eq, one_ne, and_l, and_r}
 use Rattle.laws.proofs.Bags.{at_head, here, there}

@@ -6,7 +6,8 @@ use Prim.Native.Nat.{ℕ, zero, suc, ◌<◌}
 use native.Mathlib.Omega.{arith}
 use lib.ListN.{length}
 use borrow.Author.Tests.{leb-true, leb-false, ltb-true, ltb-false, lt-ltb, eqb-true, eqb-false}
-use Rattle.laws.specs.Tests.{◌==◌, ◌<?◌, ◌≤?◌}
+use Rattle.std.specs.Prelude.{◌==◌}
+use Rattle.laws.specs.Tests.{◌<?◌, ◌≤?◌}
 use Rattle.laws.specs.Lists.{count, member, every, upto}
 use Rattle.laws.specs.Search.{above, level_by, Chain}
 use Rattle.laws.specs.Search.Chain.{step, more}

@@ -6,7 +6,8 @@ use native.Mathlib.Omega.{arith}
 use lib.ListN.{length, get_or, set, take, length-append, length-set, get_or-append}
 use lib.Seq.{get_or-append_seam, get_or-set_same, get_or-set_other, get_or-take, length-take-le}
 use borrow.Author.Tests.{ltb-true, ltb-false, eqb-true, eqb-false, eq-eqb, ne_eqb}
-use Rattle.laws.specs.Tests.{◌==◌, ◌<?◌, one}
+use Rattle.std.specs.Prelude.{◌==◌}
+use Rattle.laws.specs.Tests.{◌<?◌, one}
 use Rattle.laws.specs.Lists.{count, member, over}
 use Rattle.laws.specs.Sets.{insert, last_of, init_of, last_first, remove}
 use Rattle.laws.proofs.Tests.{by_test, one_eq, one_ne, one_le}

@@ -5,7 +5,8 @@ use Prim.Native.Nat.{ℕ, zero, suc, ◌≤◌, min, max}
 use native.Mathlib.Omega.{arith}
 use lib.Dec.{T}
 use borrow.Author.Tests.{eq-eqb, ne_eqb, leb-true, leb-false}
-use Rattle.laws.specs.Tests.{if◌then◌else◌, ◌==◌, ◌≤?◌, one, same, or_else, refuse}
+use Rattle.std.specs.Prelude.{if◌then◌else◌, ◌==◌}
+use Rattle.laws.specs.Tests.{◌≤?◌, one, same, or_else, refuse}
 
 -- go by a test, with its equation: in place of a case split, which would lose it
 pub by_test : {P : Type 0} (b : Bool) → (b ≡ true → P) → (b ≡ false → P) → P

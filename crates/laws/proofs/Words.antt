@@ -9,7 +9,8 @@ use borrow.Author.Fill.{fill_more}
 use borrow.Author.Tests.{eqb-true, eqb-false, ltb-true, ltb-false, lt-ltb}
 use lib.ListN.{length, get_or, take, drop, set, replicate, length-append, length-set, length-drop, length-replicate, get_or-replicate, get_or-append, get_or-eq_default}
 use lib.Seq.{set_at, append_snoc, get_or-set_same, get_or-set_other, get_or-take, get_or-drop, get_or-append-add, take-suc, take-suc-set, take_all, drop-set-lt, drop-set-add, take-set-le, drop-cons, drop-length, length-take-le, ext_get_or, take_at}
-use Rattle.laws.specs.Tests.{◌==◌, ◌<?◌}
+use Rattle.std.specs.Prelude.{◌==◌}
+use Rattle.laws.specs.Tests.{◌<?◌}
 use Rattle.laws.specs.Lists.{count, every, over}
 use Rattle.laws.specs.Words.{part, AllBelow, ZeroFrom, zeros, filled}
 use Rattle.laws.proofs.Tests.{by_test, one_eq, one_ne}

@@ -1,6 +1,6 @@
 -- Lists as bags and as sequences. Membership is a count: in, `0 < count x l`; not in, `count x l ≡ 0`; no repeats, `count x l ≤ 1`.
-use Rattle.std.specs.Prelude.{Bool, true, false, ◌&&◌, ◌||◌, List, [], ◌∷◌, ◌++◌, ℕ, zero, suc, ◌+◌}
-use Rattle.laws.specs.Tests.{if◌then◌else◌, ◌==◌, ◌<?◌, one}
+use Rattle.std.specs.Prelude.{Bool, true, false, ◌&&◌, ◌||◌, List, [], ◌∷◌, ◌++◌, ℕ, zero, suc, ◌+◌, if◌then◌else◌, ◌==◌}
+use Rattle.laws.specs.Tests.{◌<?◌, one}
 
 -- how often x stands in a list
 abbrev pub count : ℕ → List ℕ → ℕ

@@ -1,6 +1,5 @@
 -- Depth-first search over any function `nx` that says where one goes from a place.
-use Rattle.std.specs.Prelude.{List, [], ◌∷◌, ◌++◌, ℕ, zero, suc, ◌<◌, max}
-use Rattle.laws.specs.Tests.{if◌then◌else◌}
+use Rattle.std.specs.Prelude.{List, [], ◌∷◌, ◌++◌, ℕ, zero, suc, ◌<◌, max, if◌then◌else◌}
 use Rattle.laws.specs.Lists.{count, member, over}
 
 -- ---- where places only lead to smaller ones: the visit order, each place once, behind all that it leads to

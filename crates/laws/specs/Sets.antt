@@ -1,6 +1,5 @@
 -- The ordered set: insertion order, and removal puts the last member in the removed place.
-use Rattle.std.specs.Prelude.{List, [], ◌∷◌, ◌++◌, ℕ}
-use Rattle.laws.specs.Tests.{if◌then◌else◌, ◌==◌}
+use Rattle.std.specs.Prelude.{List, [], ◌∷◌, ◌++◌, ℕ, if◌then◌else◌, ◌==◌}
 use Rattle.laws.specs.Lists.{member}
 
 -- a new member joins at the end

@@ -1,17 +1,8 @@
 -- Tests on numbers and choices between two ways, in the notation that the rules are written in.
 use Rattle.std.specs.Prelude.{Bool, true, false, ℕ, zero, suc, leb, ltb, eqb}
 
-infix 10 if◌then◌else◌
-infix 50 ◌==◌
 infix 50 ◌<?◌
 infix 50 ◌≤?◌
-abbrev pub if◌then◌else◌ : {A : Type 0} → Bool → A → A → A
-if◌then◌else◌ true a b = a
-if◌then◌else◌ false a b = b
-
-abbrev pub ◌==◌ : ℕ → ℕ → Bool
-◌==◌ x y = eqb x y
-
 abbrev pub ◌<?◌ : ℕ → ℕ → Bool
 ◌<?◌ x y = ltb x y
 

@@ -1,25 +1,24 @@
 -- Inputs visited one after the other: of one pin, of an endpoint, of all endpoints left.
 use mathlib.Core.Path.{◌≡◌, refl, sym, ap, subst, ◌∙◌}
-use mathlib.Core.Bool.{Bool, true, false}
 use mathlib.Core.List.{List, [], ◌∷◌, ◌++◌, append-nil}
-use Prim.Native.Nat.{ℕ, zero, suc, ◌+◌, ◌-◌, ◌*◌, ◌/◌, ◌<◌, ◌≤◌}
+use Prim.Native.Nat.{ℕ, suc, ◌+◌, ◌-◌, ◌*◌, ◌/◌, ◌<◌, ◌≤◌}
 use native.Mathlib.Numerals.{add-one}
 use native.Mathlib.Omega.{arith}
 use lib.ListN.{length, get_or, take, set, length-set, length-append}
 use lib.Seq.{get_or-set_other, take-suc, take_all, length-take-le}
-use borrow.Author.Tests.{lt-ltb, ltb-true, eqb-true, eqb-false}
-use Rattle.laws.specs.Tests.{◌==◌, ◌<?◌, one}
-use Rattle.laws.specs.Lists.{count, keep, flat, over}
+use borrow.Author.Tests.{lt-ltb}
+use Rattle.std.specs.Prelude.{◌==◌}
+use Rattle.laws.specs.Tests.{one}
+use Rattle.laws.specs.Lists.{count, flat, over}
 use Rattle.laws.specs.Words.{part}
-use Rattle.laws.proofs.Tests.{by_test, one_eq, one_ne, one_le}
+use Rattle.laws.proofs.Tests.{one_eq, one_ne, one_le}
 use Rattle.laws.proofs.Bags.{count-append, flat-joined}
 use Rattle.laws.proofs.Folds.{over-append}
 use Rattle.laws.proofs.Words.{get_d_set, part_length, part_at}
 use Rattle.laws.proofs.Visits.{visit_at}
 use Rattle.rules.specs.declared.GraphCounts.{GraphCounts}
 use Rattle.rules.specs.Answers.{endpoints}
-use Rattle.walk.specs.State.{goes, list_of, Going, Kept, Visited}
-use Rattle.walk.proofs.Visits.{stops_kept}
+use Rattle.walk.specs.State.{goes, list_of, Going, Visited}
 use Rattle.reads.specs.Reads.{Lent, reads_in, reads_long, ins_of, ins_to}
 use Rattle.reads.proofs.Inputs.{ins_none, ins_step, ins_all, ins_few, ins_to_few}
 use Rattle.levels.specs.State.{stops_of, Spare, ReadsFit, Lefts, only, Gathered}

@@ -1,23 +1,21 @@
 -- Where a pin leads, and a gate's level with the readers of its operands.
 use mathlib.Core.Path.{◌≡◌, refl, sym, ap, subst, ◌∙◌}
-use mathlib.Core.Bool.{Bool, true, false}
-use mathlib.Core.List.{List, [], ◌∷◌, ◌++◌}
-use Prim.Native.Nat.{ℕ, suc, ◌+◌, ◌-◌, ◌*◌, ◌/◌, ◌<◌, ◌≤◌, max}
+use mathlib.Core.List.{List, [], ◌∷◌}
+use Prim.Native.Nat.{ℕ, suc, ◌+◌, ◌*◌, ◌/◌, ◌<◌, ◌≤◌, max}
 use native.Mathlib.Numerals.{add-one}
 use native.Mathlib.Omega.{arith}
 use lib.ListN.{length, get_or, set, length-set}
 use lib.Seq.{get_or-set_other, get_or-set_same}
-use borrow.Author.Tests.{eqb-true, eqb-false, eq-eqb, ne_eqb}
-use Rattle.laws.specs.Tests.{if◌then◌else◌, ◌==◌, one}
+use borrow.Author.Tests.{eqb-true, eqb-false}
+use Rattle.std.specs.Prelude.{◌==◌}
+use Rattle.laws.specs.Tests.{one}
 use Rattle.laws.specs.Lists.{count}
-use Rattle.laws.specs.Search.{above}
 use Rattle.laws.proofs.Tests.{by_test, one_eq, one_ne}
 use Rattle.laws.proofs.Words.{get_d_set, bump}
 use Rattle.walk.specs.State.{goes, tag_of, first_of, second_of}
 use Rattle.walk.proofs.Leads.{goes_stop, goes_source, goes_gate, operands_fit}
-use Rattle.members.specs.Set.{Within}
 use Rattle.members.proofs.Frames.{within_none, within-set}
-use Rattle.levels.specs.State.{stops_of, Known, Spare, Leads, nowhere, operands, Rises, raised, Raising, RaisedPin}
+use Rattle.levels.specs.State.{stops_of, Known, Leads, nowhere, operands, Rises, raised, Raising, RaisedPin}
 use Rattle.levels.proofs.Stops.{stop_member, stop_free}
 
 -- ---- where a pin leads

@@ -1,19 +1,18 @@
 -- The levels of the pins listed, one after the other: what a gate reads stands before it.
 use mathlib.Core.Path.{◌≡◌, refl, sym, ap, subst, ◌∙◌}
-use mathlib.Core.Bool.{Bool, true, false}
+use mathlib.Core.Bool.{true}
 use mathlib.Core.List.{List, [], ◌∷◌, ◌++◌}
-use Prim.Native.Nat.{ℕ, zero, suc, ◌+◌, ◌-◌, ◌*◌, ◌<◌, ◌≤◌, max}
+use Prim.Native.Nat.{ℕ, zero, suc, ◌+◌, ◌-◌, ◌*◌, ◌<◌, ◌≤◌}
 use native.Mathlib.Numerals.{add-one}
 use native.Mathlib.Omega.{arith}
 use lib.ListN.{length, get_or, take}
-use lib.Seq.{take-suc, take_all, length-take-le}
-use borrow.Author.Tests.{eqb-true, eqb-false, eq-eqb}
-use Rattle.laws.specs.Tests.{if◌then◌else◌, ◌==◌}
+use lib.Seq.{take-suc, take_all}
+use borrow.Author.Tests.{eqb-true, eqb-false}
+use Rattle.std.specs.Prelude.{if◌then◌else◌, ◌==◌}
 use Rattle.laws.specs.Lists.{count, member, flat}
 use Rattle.laws.specs.Search.{above, level_by, level}
-use Rattle.laws.specs.Words.{part}
-use Rattle.laws.proofs.Tests.{by_test, one_eq, one_ne}
-use Rattle.laws.proofs.Bags.{count-append, member_true, member_false, is_member, no_member, member_last, member_other, flat_append, at_head, here}
+use Rattle.laws.proofs.Tests.{by_test}
+use Rattle.laws.proofs.Bags.{count-append, is_member, no_member, member_last, member_other, flat_append, here}
 use Rattle.laws.proofs.Levels.{above_same, level_is}
 use Rattle.laws.proofs.Visits.{Ranked}
 use Rattle.laws.proofs.Words.{part_length, part_at}

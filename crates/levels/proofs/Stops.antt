@@ -1,5 +1,5 @@
 -- The stops as a list, and what holds as long as the words below 4 * m are as they were.
-use mathlib.Core.Path.{◌≡◌, refl, sym, ap, subst, ◌∙◌}
+use mathlib.Core.Path.{◌≡◌, refl, ap, ◌∙◌}
 use mathlib.Core.Bool.{Bool, true, false}
 use mathlib.Core.List.{List, [], ◌∷◌}
 use Prim.Native.Nat.{ℕ, ◌+◌, ◌*◌, ◌<◌, ◌≤◌}
@@ -8,9 +8,8 @@ use lib.ListN.{length, get_or}
 use borrow.Author.Tests.{ltb-true, ltb-false, lt-ltb, le-ltb}
 use Rattle.laws.specs.Tests.{◌<?◌, one}
 use Rattle.laws.specs.Lists.{count, member, keep, upto}
-use Rattle.laws.specs.Words.{part, stack_of}
 use Rattle.laws.proofs.Tests.{by_test}
-use Rattle.laws.proofs.Bags.{is_member, no_member, member_false, count-keep, count-drop}
+use Rattle.laws.proofs.Bags.{is_member, no_member, count-keep, count-drop}
 use Rattle.laws.proofs.Ranges.{upto_in, in_upto}
 use Rattle.laws.proofs.Words.{part_same}
 use Rattle.laws.proofs.Stacks.{stack_none}

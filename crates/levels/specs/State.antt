@@ -1,9 +1,8 @@
 -- The work words of a split, w, with one word for each of the m pins: levels from 4 * m, readers from 5 * m; from 8 * m on the endpoints left.
-use Rattle.std.specs.Prelude.{◌≡◌, true, List, [], ◌∷◌, ℕ, suc, ◌+◌, ◌-◌, ◌*◌, ◌/◌, ◌<◌, ◌≤◌, max, length, get_or, set}
-use Rattle.laws.specs.Tests.{if◌then◌else◌, ◌==◌, ◌<?◌}
+use Rattle.std.specs.Prelude.{◌≡◌, true, List, [], ◌∷◌, ℕ, suc, ◌+◌, ◌-◌, ◌*◌, ◌/◌, ◌<◌, ◌≤◌, max, length, get_or, set, if◌then◌else◌, ◌==◌}
+use Rattle.laws.specs.Tests.{◌<?◌}
 use Rattle.laws.specs.Lists.{count, member, keep, flat, over, upto}
 use Rattle.laws.specs.Search.{above, level}
-use Rattle.laws.specs.Words.{part}
 use Rattle.laws.proofs.Visits.{visit_at, Ranked}
 use Rattle.laws.proofs.Words.{bump}
 use Rattle.rules.specs.declared.GraphCounts.{GraphCounts}

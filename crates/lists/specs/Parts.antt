@@ -1,6 +1,6 @@
 -- What the cells' lists are to be, of starts, lists, pins and kinds alone.
-use Rattle.std.specs.Prelude.{◌≡◌, Bool, not, ◌&&◌, ◌||◌, List, ℕ, ◌+◌, ◌-◌, ◌*◌, ◌/◌, ◌<◌, ◌≤◌, length, get_or, take, drop}
-use Rattle.laws.specs.Tests.{◌==◌, ◌<?◌, ◌≤?◌}
+use Rattle.std.specs.Prelude.{◌≡◌, Bool, not, ◌&&◌, ◌||◌, List, ℕ, ◌+◌, ◌-◌, ◌*◌, ◌/◌, ◌<◌, ◌≤◌, length, get_or, take, drop, ◌==◌}
+use Rattle.laws.specs.Tests.{◌<?◌, ◌≤?◌}
 use Rattle.laws.specs.Lists.{every, keep, upto}
 use Rattle.rules.specs.Netlist.{slots, kind_table, unfit}
 use Rattle.kinds.specs.Slots.{kind_word}

@@ -9,12 +9,11 @@ use lib.Seq.{get_or-set_same, get_or-set_other}
 use Rattle.laws.specs.Lists.{count, first_or}
 use Rattle.laws.proofs.Bags.{here}
 use Rattle.laws.proofs.Tests.{true≢false}
-use Rattle.rules.specs.declared.Driver.{Driver}
 use Rattle.rules.specs.declared.Driver.TheVariants.{Port}
 use Rattle.rules.specs.declared.Literal.{Literal}
 use Rattle.rules.specs.declared.Tally.{Tally}
 use Rattle.rules.specs.Netlist.{Netlist, named}
-use Rattle.rules.specs.Graph.{literal, opposite, opposite_if, Made, and_of}
+use Rattle.rules.specs.Graph.{opposite, opposite_if, Made, and_of}
 use Rattle.rules.proofs.Tables.{clash, of_name}
 use Rattle.roles.specs.Reading.{tables, Fits, entry_of, either_in, cell_pins}
 use Rattle.roles.specs.declared.Entry.{Entry}
@@ -25,7 +24,7 @@ use Rattle.drafts.specs.declared.Counted.{Counted}
 use Rattle.drafts.specs.Table.{Table, drafted, pushed, set_reset, SameEnds, Extends}
 use Rattle.drafts.specs.Table as table
 use Rattle.drafts.proofs.Steps.{table_store}
-use Rattle.literals.specs.Settled.{word_at, turned_made, Settles, settled, unfit, Except, Left, left}
+use Rattle.literals.specs.Settled.{word_at, turned_made, Settles, settled, unfit, Left, left}
 use Rattle.literals.specs.Settled as out
 
 pub turned_so : (x : Bool) (l r : Literal) → x ≡ true → r.word ≡ opposite l.word → r.word ≡ opposite_if x l.word

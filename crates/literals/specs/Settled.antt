@@ -1,5 +1,5 @@
 -- A pin's literal in the work words, and what is there once it is written.
-use Rattle.std.specs.Prelude.{◌≡◌, Bool, true, false, List, ℕ, ◌+◌, ◌*◌, ◌<◌, ◌≤◌, length, get_or, set}
+use Rattle.std.specs.Prelude.{◌≡◌, Bool, true, false, List, ℕ, ◌+◌, ◌*◌, ◌<◌, length, get_or, set}
 use Rattle.rules.specs.declared.Tally.{Tally}
 use Rattle.rules.specs.Graph.{opposite_if, Made}
 use Rattle.drafts.specs.declared.Added.{Added}

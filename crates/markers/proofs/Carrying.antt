@@ -1,15 +1,15 @@
 -- What one pin carries, in the code's shape.
 use mathlib.Core.Path.{◌≡◌, refl, sym, ◌∙◌, ap, subst}
 use mathlib.Core.Bool.{Bool, true, false}
-use mathlib.Core.List.{List, [], ◌∷◌}
+use mathlib.Core.List.{List, []}
 use mathlib.Core.Option.{Option, none, some}
 use Prim.Native.Nat.{ℕ, zero, suc, ◌+◌, ◌*◌, ◌<◌, ◌≤◌}
 use native.Mathlib.Omega.{arith}
 use lib.ListN.{length, get_or, set}
 use Rattle.laws.specs.Lists.{count}
 use Rattle.laws.proofs.Bags.{here}
-use Rattle.rules.specs.Netlist.{Netlist, size}
-use Rattle.rules.specs.Build.{Role, tied, wire, out_port, in_port, and_out, inv_out, buf_out, gate_out, dff_out, ram_out, nothing, role, visits_of, next}
+use Rattle.rules.specs.Netlist.{Netlist}
+use Rattle.rules.specs.Build.{Role, tied, wire, out_port, in_port, and_out, inv_out, buf_out, gate_out, dff_out, ram_out, nothing, role, visits_of}
 use Rattle.rules.specs.Refusals.{turn_mark, mark_of}
 use Rattle.rules.proofs.Roles.{visit_fits}
 use Rattle.roles.specs.declared.PinRole.{PinRole}

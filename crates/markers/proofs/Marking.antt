@@ -1,32 +1,32 @@
 -- The markers of all pins along the events, in the code's shape.
 use mathlib.Core.Path.{◌≡◌, refl, sym, ◌∙◌, ap, ap₂, subst}
-use mathlib.Core.Bool.{Bool, true, false}
-use mathlib.Core.List.{List, [], ◌∷◌, ◌++◌, map}
-use Prim.Native.Nat.{ℕ, zero, suc, ◌+◌, ◌-◌, ◌*◌, ◌/◌, ◌%◌, ◌<◌, ◌≤◌}
+use mathlib.Core.Bool.{true}
+use mathlib.Core.List.{List, [], ◌∷◌, map}
+use Prim.Native.Nat.{ℕ, zero, suc, ◌+◌, ◌*◌, ◌/◌, ◌%◌, ◌<◌, ◌≤◌}
 use native.Mathlib.Numerals.{add-one}
 use native.Mathlib.Omega.{arith}
-use lib.ListN.{length, get_or, set, length-set, take}
-use lib.Seq.{get_or-set_same, get_or-set_other, length-take-le, take-length}
+use lib.ListN.{length, get_or, length-set, take}
+use lib.Seq.{get_or-set_other, take-length}
 use borrow.Author.Tests.{eqb-true, eqb-false}
-use Rattle.laws.specs.Tests.{◌==◌}
+use Rattle.std.specs.Prelude.{◌==◌}
 use Rattle.laws.specs.Lists.{count, over, upto}
 use Rattle.laws.specs.Words.{part}
 use Rattle.laws.specs.Search.{Event, enter, leave, explore}
 use Rattle.laws.proofs.Tests.{by_test, one_eq}
-use Rattle.laws.proofs.Bags.{at_head, here, there}
+use Rattle.laws.proofs.Bags.{at_head, there}
 use Rattle.laws.proofs.Folds.{over-take, over-map, over-same, walk_inv}
 use Rattle.laws.proofs.Ranges.{in_upto, upto_in}
 use Rattle.laws.proofs.Tasks.{place_of}
 use Rattle.laws.proofs.Words.{get_d_set, part_length, part_at}
-use Rattle.laws.proofs.Events.{ins, outs, in_after, out_after, count_in, count_out, Proper, proper_within, proper_fold, all_found, Apart, explore_apart}
+use Rattle.laws.proofs.Events.{ins, outs, in_after, out_after, count_out, Proper, proper_within, proper_fold, all_found, Apart, explore_apart}
 use Rattle.rules.specs.Netlist.{Netlist, size}
-use Rattle.rules.specs.Build.{role, visits_of, next, events}
+use Rattle.rules.specs.Build.{role, next, events}
 use Rattle.rules.specs.Refusals.{Loop, loop_free, mark_of, mark_by, mark}
 use Rattle.rules.proofs.Roles.{next_closed}
 use Rattle.rules.proofs.Accepts.{loop_iff, rank_of, rank_low, visits_fall}
 use Rattle.roles.specs.Reading.{tables, Fits}
 use Rattle.orders.specs.State.{event_of, events_of}
-use Rattle.markers.specs.Marks.{mark_word, taken_from, word_by, marked, LaidOut, Marked}
+use Rattle.markers.specs.Marks.{mark_word, word_by, marked, LaidOut, Marked}
 use Rattle.markers.proofs.Carrying.{taken_visited, word_is, mark-same}
 
 -- ---- the events of a netlist without loops

@@ -2,19 +2,18 @@
 use mathlib.Core.Path.{◌≡◌, refl, sym, ap, subst, ◌∙◌}
 use mathlib.Core.Bool.{Bool, true, false, ◌&&◌}
 use mathlib.Core.List.{List, [], ◌∷◌, ◌++◌}
-use Prim.Native.Nat.{ℕ, zero, suc, ◌+◌, ◌≤◌, ◌<◌}
+use Prim.Native.Nat.{ℕ, ◌+◌, ◌≤◌, ◌<◌}
 use native.Mathlib.Omega.{arith}
-use native.Mathlib.Numerals.{add-one}
-use lib.Dec.{ltb, eqb}
-use lib.ListN.{length, get_or, set, take, drop, length-set}
-use lib.Seq.{get_or-set_same, get_or-set_other, take-suc, take_all, drop-cons}
-use borrow.Author.Tests.{eqb-true, eqb-false, le-ltb, lt-ltb, ne_eqb, ltb-true}
-use Rattle.laws.specs.Tests.{◌==◌, ◌<?◌, one}
+use lib.ListN.{get_or, set, length-set}
+use lib.Seq.{get_or-set_same, get_or-set_other}
+use borrow.Author.Tests.{eqb-true, eqb-false, le-ltb, lt-ltb, ne_eqb}
+use Rattle.std.specs.Prelude.{◌==◌}
+use Rattle.laws.specs.Tests.{◌<?◌, one}
 use Rattle.laws.specs.Lists.{count, member, every}
 use Rattle.laws.proofs.Tests.{by_test, true≢false, one_zero, one_set, one_eq, one_ne, and-false}
-use Rattle.laws.proofs.Bags.{count-append, here, there, member_true, member_false, is_member, no_member, member_last, member_other, every_true, every_all, at_head}
+use Rattle.laws.proofs.Bags.{count-append, member_true, member_false, member_last, member_other, every_true, every_all}
 use Rattle.rules.specs.Refusals.{below, no_repeat}
-use Rattle.marks.specs.Marking.{Clear, Marks, Marked, joined, outside, repeated, MarkedAll, a_set, no_set}
+use Rattle.marks.specs.Marking.{Clear, Marks}
 
 pub marks_begin : (w : List ℕ) (base limit : ℕ) → Clear w base limit → Marks w w base limit []
 marks_begin w base limit c = record {

@@ -1,5 +1,5 @@
 -- What it is for words from `base` on to be the marks of a set of numbers below `limit`.
-use Rattle.std.specs.Prelude.{◌≡◌, ◌⊎◌, Bool, true, false, ◌&&◌, List, [], ◌∷◌, ◌++◌, ℕ, ◌+◌, ◌<◌, ◌≤◌, length, get_or, set}
+use Rattle.std.specs.Prelude.{◌≡◌, Bool, true, false, ◌&&◌, List, ℕ, ◌+◌, ◌<◌, ◌≤◌, length, get_or, set}
 use Rattle.laws.specs.Tests.{one}
 use Rattle.laws.specs.Lists.{count, member}
 use Rattle.rules.specs.Refusals.{below, no_repeat}

@@ -1,21 +1,19 @@
 -- One member joins or leaves.
 use mathlib.Core.Path.{◌≡◌, refl, sym, ap, subst, ◌∙◌}
-use mathlib.Core.Bool.{true, false}
 use mathlib.Core.List.{List, [], ◌∷◌, ◌++◌}
-use Prim.Native.Nat.{ℕ, zero, suc, ◌+◌, ◌-◌, ◌*◌, ◌<◌, ◌≤◌}
-use native.Mathlib.Numerals.{add-one}
+use Prim.Native.Nat.{ℕ, suc, ◌+◌, ◌-◌, ◌*◌, ◌<◌, ◌≤◌}
 use native.Mathlib.Omega.{arith}
 use lib.ListN.{length, get_or, take, set, length-set}
-use lib.Seq.{get_or-set_other, get_or-set_same, get_or-take}
+use lib.Seq.{get_or-set_other}
 use borrow.Author.Tests.{eqb-true, eqb-false}
-use Rattle.laws.specs.Tests.{◌==◌}
+use Rattle.std.specs.Prelude.{◌==◌}
 use Rattle.laws.specs.Lists.{count, member}
-use Rattle.laws.specs.Sets.{insert, remove}
+use Rattle.laws.specs.Sets.{remove}
 use Rattle.laws.specs.Words.{part}
 use Rattle.laws.proofs.Tests.{by_test, one_eq, one_ne}
-use Rattle.laws.proofs.Bags.{count-append, at_head, member_true, member_false, here}
+use Rattle.laws.proofs.Bags.{count-append, at_head, member_true, member_false}
 use Rattle.laws.proofs.Indices.{at_in, index_of}
-use Rattle.laws.proofs.Sets.{Placed, placed_in, placed-insert, placed-remove, insert_old, insert_new, remove-once, count-remove, length-remove}
+use Rattle.laws.proofs.Sets.{placed_in, placed-insert, placed-remove, insert_old, insert_new, remove-once, count-remove}
 use Rattle.laws.proofs.Words.{get_d_set, part_length, part_at, part_in, part-more, part-before, part_after, part_same}
 use Rattle.laws.proofs.Counting.{fits}
 use Rattle.members.specs.Set.{Within, SetIn, Inserted, Removed}

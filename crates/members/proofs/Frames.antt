@@ -1,9 +1,9 @@
 -- Parts of words that a change elsewhere leaves, and the part that it changes.
-use mathlib.Core.Path.{◌≡◌, refl, sym, ap, subst, ◌∙◌}
+use mathlib.Core.Path.{◌≡◌, refl, sym, ap, ◌∙◌}
 use mathlib.Core.List.{List}
-use Prim.Native.Nat.{ℕ, ◌+◌, ◌*◌, ◌<◌, ◌≤◌}
+use Prim.Native.Nat.{ℕ, ◌+◌, ◌<◌, ◌≤◌}
 use native.Mathlib.Omega.{arith}
-use lib.ListN.{length, get_or, take, drop, set, length-set}
+use lib.ListN.{length, take, drop, set, length-set}
 use lib.Seq.{get_or-set_other, drop-set-add, take-set-lt, take-take}
 use Rattle.laws.specs.Words.{part}
 use Rattle.laws.proofs.Words.{part_same}

@@ -2,11 +2,12 @@
 use mathlib.Core.Path.{◌≡◌, sym, ◌∙◌}
 use mathlib.Core.Bool.{Bool, true, false, ◌&&◌}
 use mathlib.Core.List.{List}
-use Prim.Native.Nat.{ℕ, ◌<◌, ◌≤◌}
+use Prim.Native.Nat.{ℕ}
 use native.Mathlib.Omega.{arith}
 use lib.ListN.{length, get_or}
 use borrow.Author.Tests.{ltb-true, leb-true}
-use Rattle.laws.specs.Tests.{◌==◌, ◌<?◌, ◌≤?◌, same}
+use Rattle.std.specs.Prelude.{◌==◌}
+use Rattle.laws.specs.Tests.{◌<?◌, ◌≤?◌, same}
 use Rattle.laws.specs.Lists.{every, upto}
 use Rattle.laws.proofs.Tests.{and_l, and_r}
 use Rattle.laws.proofs.Ranges.{of_upto}

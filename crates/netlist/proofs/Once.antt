@@ -8,11 +8,12 @@ use native.Mathlib.Numerals.{add-one}
 use native.Mathlib.Omega.{arith}
 use lib.ListN.{length, get_or, take, drop, take-append-drop}
 use borrow.Author.Tests.{ltb-true, ltb-false, lt-ltb, eqb-true, eqb-false, eq-eqb, ne_eqb}
-use Rattle.laws.specs.Tests.{◌==◌, ◌<?◌, one}
+use Rattle.std.specs.Prelude.{◌==◌}
+use Rattle.laws.specs.Tests.{◌<?◌}
 use Rattle.laws.specs.Lists.{count, member, keep, every, upto}
 use Rattle.laws.specs.Words.{part}
 use Rattle.laws.proofs.Tests.{by_test, one_eq, one_ne, and_l, and_r, bits_same, both_true}
-use Rattle.laws.proofs.Bags.{count-append, at_head, there, member_true, member_false, every_true, every_all, count-keep}
+use Rattle.laws.proofs.Bags.{count-append, at_head, member_true, member_false, every_true, every_all, count-keep}
 use Rattle.laws.proofs.Indices.{at_in, index_of}
 use Rattle.laws.proofs.Ranges.{every_upto, of_upto}
 use Rattle.laws.proofs.Counting.{length_parts, fits}

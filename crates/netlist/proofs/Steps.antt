@@ -6,7 +6,8 @@ use Prim.Native.Nat.{ℕ, ◌+◌, ◌*◌, ◌<◌, ◌≤◌}
 use native.Mathlib.Omega.{arith}
 use lib.ListN.{length, get_or}
 use borrow.Author.Tests.{lt-leb, le-leb, eq-eqb, ne_eqb}
-use Rattle.laws.specs.Tests.{◌==◌, ◌≤?◌}
+use Rattle.std.specs.Prelude.{◌==◌}
+use Rattle.laws.specs.Tests.{◌≤?◌}
 use Rattle.laws.specs.Lists.{every, upto}
 use Rattle.laws.proofs.Tests.{true≢false, and_l, and_r, and-false}
 use Rattle.laws.proofs.Ranges.{of_upto}

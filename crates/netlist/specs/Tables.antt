@@ -1,6 +1,6 @@
 -- The netlist of lent tables, and what each test reads of it.
-use Rattle.std.specs.Prelude.{◌≡◌, Bool, true, ◌&&◌, ◌||◌, List, [], ℕ, ◌+◌, ◌*◌, ◌<◌, ◌≤◌, length, get_or}
-use Rattle.laws.specs.Tests.{◌==◌, ◌≤?◌, same, or_else, refuse}
+use Rattle.std.specs.Prelude.{◌≡◌, Bool, true, ◌&&◌, ◌||◌, List, [], ℕ, ◌+◌, ◌*◌, ◌<◌, ◌≤◌, length, get_or, ◌==◌}
+use Rattle.laws.specs.Tests.{◌≤?◌, same, or_else, refuse}
 use Rattle.laws.specs.Lists.{count, every, upto}
 use Rattle.rules.specs.Netlist.{Netlist, cell_of, name_of, bit_of, named_bit, pin_allowed, has_must}
 use Rattle.rules.specs.declared.NetlistCounts.{NetlistCounts}

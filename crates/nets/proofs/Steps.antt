@@ -6,7 +6,8 @@ use Prim.Native.Nat.{ℕ, ◌+◌, ◌-◌, ◌*◌, ◌<◌, ◌≤◌}
 use native.Mathlib.Omega.{arith}
 use lib.ListN.{length, get_or}
 use borrow.Author.Tests.{le-ltb, lt-ltb, eq-eqb, ne_eqb}
-use Rattle.laws.specs.Tests.{◌==◌, ◌<?◌}
+use Rattle.std.specs.Prelude.{◌==◌}
+use Rattle.laws.specs.Tests.{◌<?◌}
 use Rattle.pins.specs.Words.{pin_at}
 use Rattle.nets.specs.Driven.{driven, driving, Netted}
 

@@ -1,6 +1,6 @@
 -- The net rule on pins and nets alone.
-use Rattle.std.specs.Prelude.{Bool, not, ◌&&◌, ◌||◌, List, ℕ, ◌+◌, ◌-◌, ◌*◌, ◌<◌, ◌≤◌, length, get_or}
-use Rattle.laws.specs.Tests.{◌==◌, ◌<?◌}
+use Rattle.std.specs.Prelude.{Bool, not, ◌&&◌, ◌||◌, List, ℕ, ◌+◌, ◌-◌, ◌*◌, ◌<◌, ◌≤◌, length, get_or, ◌==◌}
+use Rattle.laws.specs.Tests.{◌<?◌}
 use Rattle.pins.specs.Words.{pin_at}
 
 -- what a net's word says of the net

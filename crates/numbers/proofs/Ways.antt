@@ -1,14 +1,12 @@
 -- One law for each way through the code.
-use mathlib.Core.Path.{◌≡◌, refl, sym, ap, ◌∙◌}
+use mathlib.Core.Path.{◌≡◌, ap, ◌∙◌}
 use mathlib.Core.Bool.{true, false}
 use mathlib.Core.List.{List}
 use Prim.Native.Nat.{ℕ, ◌+◌, ◌≤◌, ◌<◌}
 use lib.ListN.{get_or, set}
 use borrow.Author.Tests.{eq-eqb, ne_eqb, le-leb, lt-leb}
-use Rattle.laws.specs.Tests.{if◌then◌else◌, ◌==◌}
 use Rattle.rules.specs.declared.Tally.{Tally}
 use Rattle.tallies.specs.Counted.{dff_counted, ram_counted}
-use Rattle.drafts.specs.declared.Counted.{Counted}
 use Rattle.numbers.specs.Numbering.{counted, numbered, flops_counted, rams_counted}
 
 module _ (w : List ℕ) (place made : ℕ) where

@@ -1,6 +1,6 @@
 -- A record more, where a cell has none yet.
-use Rattle.std.specs.Prelude.{Bool, true, false, List, ℕ, ◌+◌, get_or, set}
-use Rattle.laws.specs.Tests.{if◌then◌else◌, ◌==◌, ◌≤?◌}
+use Rattle.std.specs.Prelude.{true, false, List, ℕ, ◌+◌, get_or, set, if◌then◌else◌, ◌==◌}
+use Rattle.laws.specs.Tests.{◌≤?◌}
 use Rattle.rules.specs.declared.Tally.{Tally}
 use Rattle.tallies.specs.Counted.{dff_counted, ram_counted}
 use Rattle.drafts.specs.declared.Counted.{Counted}

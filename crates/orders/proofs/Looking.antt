@@ -1,10 +1,10 @@
 -- One look at the visits of a pin, in the code's shape.
-use mathlib.Core.Path.{◌≡◌, refl, sym, ◌∙◌, ap, ap₂, subst}
+use mathlib.Core.Path.{◌≡◌, refl, sym, ◌∙◌, ap, subst}
 use mathlib.Core.List.{List, [], ◌∷◌}
-use Prim.Native.Nat.{ℕ, zero, suc, ◌+◌, ◌-◌, ◌*◌, ◌<◌, ◌≤◌}
+use Prim.Native.Nat.{ℕ, zero, suc, ◌+◌, ◌-◌, ◌<◌, ◌≤◌}
 use native.Mathlib.Omega.{arith}
 use lib.ListN.{length, get_or, take, drop}
-use Rattle.laws.specs.Lists.{count, keep}
+use Rattle.laws.specs.Lists.{count}
 use Rattle.laws.proofs.Tests.{by_test}
 use Rattle.laws.proofs.Bags.{length-keep}
 use Rattle.laws.proofs.Indices.{at_in}
@@ -19,10 +19,10 @@ use Rattle.roles.proofs.Entries.{entry_first, entry_next, entry_none}
 use Rattle.orders.specs.declared.Seen.{Seen}
 use Rattle.orders.specs.State.{goes_to, tag_of, probe_of, Looked}
 use Rattle.orders.specs.State.Looked.{leaves, enters, loops}
-use lib.Dec.{ltb}
 use borrow.Author.Tests.{ltb-true, ltb-false}
-use Rattle.laws.specs.Tests.{◌<?◌, ◌==◌}
-use mathlib.Core.Bool.{Bool, true, false, ◌||◌}
+use Rattle.std.specs.Prelude.{◌==◌}
+use Rattle.laws.specs.Tests.{◌<?◌}
+use mathlib.Core.Bool.{◌||◌}
 
 -- ---- entries
 pub entry_at : (l : List ℕ) (k : ℕ) → k < length l → entry_of l k ≡ Pin (get_or l k 0)

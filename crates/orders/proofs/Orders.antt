@@ -1,25 +1,25 @@
 -- The visits of all pins, in the code's shape, and what they say of loops.
-use mathlib.Core.Path.{◌≡◌, refl, sym, ◌∙◌, ap, ap₂, subst}
+use mathlib.Core.Path.{◌≡◌, refl, sym, ◌∙◌, ap, subst}
 use mathlib.Core.Bool.{Bool, true, false, not}
-use mathlib.Core.List.{List, [], ◌∷◌, ◌++◌}
-use Prim.Native.Nat.{ℕ, zero, suc, ◌+◌, ◌-◌, ◌*◌, ◌<◌, ◌≤◌}
+use mathlib.Core.List.{List, []}
+use Prim.Native.Nat.{ℕ, zero, suc, ◌+◌, ◌*◌, ◌<◌, ◌≤◌}
 use native.Mathlib.Numerals.{add-one}
 use native.Mathlib.Omega.{arith}
-use lib.ListN.{length, get_or, set}
+use lib.ListN.{length}
 use borrow.Author.Tests.{ltb-true, ltb-false, ne_eqb}
-use Rattle.laws.specs.Tests.{◌==◌, ◌<?◌}
+use Rattle.std.specs.Prelude.{◌==◌}
+use Rattle.laws.specs.Tests.{◌<?◌}
 use Rattle.laws.specs.Lists.{count, keep, over, upto}
-use Rattle.laws.specs.Words.{stack_of}
-use Rattle.laws.specs.Search.{Event, entered, explore, Chain}
+use Rattle.laws.specs.Search.{Event, entered, explore}
 use Rattle.laws.proofs.Tests.{by_test, true≢false}
 use Rattle.laws.proofs.Bags.{count-keep}
 use Rattle.laws.proofs.Counting.{length_parts}
 use Rattle.laws.proofs.Folds.{over_snoc, over-same}
 use Rattle.laws.proofs.Ranges.{in_upto}
 use Rattle.laws.proofs.Events.{ins, outs, explore_at, explore_has, grows_ins, search_fuel}
-use Rattle.laws.proofs.Loops.{loop_free_lem, loop_freed}
+use Rattle.laws.proofs.Loops.{loop_free_lem}
 use Rattle.laws.proofs.Stacks.{stack_none, Open, open_start, open_free, open_once}
-use Rattle.rules.specs.Netlist.{Netlist, size}
+use Rattle.rules.specs.Netlist.{Netlist}
 use Rattle.rules.specs.Build.{next, events}
 use Rattle.rules.specs.Refusals.{Loop, loop_free}
 use Rattle.rules.proofs.Roles.{next_closed}

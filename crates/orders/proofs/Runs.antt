@@ -2,17 +2,16 @@
 use mathlib.Core.Path.{◌≡◌, refl, sym, ◌∙◌, ap, ap₂, subst}
 use mathlib.Core.Bool.{Bool, true, false}
 use mathlib.Core.List.{List, [], ◌∷◌, ◌++◌}
-use Prim.Native.Nat.{ℕ, zero, suc, ◌+◌, ◌-◌, ◌*◌, ◌<◌, ◌≤◌}
+use Prim.Native.Nat.{ℕ, ◌+◌, ◌-◌, ◌*◌, ◌<◌, ◌≤◌}
 use native.Mathlib.Omega.{arith}
-use lib.ListN.{length, get_or, set, length-set}
-use Rattle.laws.specs.Lists.{count}
+use lib.ListN.{length, get_or, set}
 use Rattle.laws.specs.Words.{stack_of}
-use Rattle.laws.specs.Search.{Event, enter, Chain}
+use Rattle.laws.specs.Search.{Event, enter}
 use Rattle.laws.proofs.Tests.{true≢false}
 use Rattle.laws.proofs.Events.{ins, explore_at, explore_again}
 use Rattle.laws.proofs.Stacks.{stack_none, Open, open_root, resume, resume_start}
 use Rattle.roles.specs.Reading.{tables, Fits}
-use Rattle.orders.specs.State.{goes_to, events_of, Going, Kept, goal, Turned, Step, Finished, Visited}
+use Rattle.orders.specs.State.{goes_to, events_of, Going, Kept, goal, Step, Finished, Visited}
 use Rattle.orders.specs.State.Step.{goes, meets}
 use Rattle.orders.specs.State.Finished.{ends, finds}
 use Rattle.orders.specs.State.Visited.{visits, stops}

@@ -1,17 +1,16 @@
 -- One turn, in the code's shape.
-use mathlib.Core.Path.{◌≡◌, refl, sym, ◌∙◌, ap, ap₂, subst}
+use mathlib.Core.Path.{◌≡◌, refl, sym, ◌∙◌, ap, subst}
 use mathlib.Core.Bool.{Bool, true, false}
 use mathlib.Core.List.{List, [], ◌∷◌, ◌++◌}
 use Prim.Native.Nat.{ℕ, zero, suc, ◌+◌, ◌-◌, ◌*◌, ◌<◌, ◌≤◌}
 use native.Mathlib.Omega.{arith}
 use lib.ListN.{length, get_or, set, take, drop}
 use Rattle.laws.specs.Lists.{count}
-use Rattle.laws.specs.Search.{Chain}
-use Rattle.laws.proofs.Bags.{at_head, here, there}
+use Rattle.laws.proofs.Bags.{at_head}
 use Rattle.laws.proofs.Events.{ins}
 use Rattle.laws.proofs.Indices.{at_in, index_of}
 use Rattle.roles.specs.Reading.{tables, Fits}
-use Rattle.orders.specs.State.{goes_to, events_of, Looked, Going, Kept, PinLeft, PinEntered, Turned, Step}
+use Rattle.orders.specs.State.{goes_to, events_of, Looked, Going, PinLeft, PinEntered, Step}
 use Rattle.orders.specs.State.Looked.{leaves, enters, loops}
 use Rattle.orders.specs.State.Step.{goes, meets}
 use Rattle.orders.proofs.Looking.{goes_closed}

@@ -1,20 +1,16 @@
 -- The state of the visits between turns, over any function that says where one goes.
 use mathlib.Core.Path.{◌≡◌, refl, sym, ◌∙◌, ap, ap₂, subst}
-use mathlib.Core.Bool.{Bool, true, false}
 use mathlib.Core.List.{List, [], ◌∷◌, ◌++◌, map}
-use Prim.Native.Nat.{ℕ, zero, suc, ◌+◌, ◌-◌, ◌*◌, ◌/◌, ◌%◌, ◌<◌, ◌≤◌}
-use native.Mathlib.Numerals.{add-one}
+use Prim.Native.Nat.{ℕ, ◌+◌, ◌-◌, ◌*◌, ◌/◌, ◌%◌, ◌<◌, ◌≤◌}
 use native.Mathlib.Omega.{arith}
-use lib.ListN.{length, get_or, set, length-set, take, drop}
+use lib.ListN.{length, get_or, set, length-set}
 use lib.Seq.{get_or-set_same, get_or-set_other}
-use borrow.Author.Tests.{eqb-true, eqb-false, eq-eqb, ne_eqb}
-use Rattle.laws.specs.Tests.{if◌then◌else◌, ◌==◌}
+use borrow.Author.Tests.{eq-eqb, ne_eqb}
 use Rattle.laws.specs.Lists.{count}
 use Rattle.laws.specs.Words.{part, stack_of}
 use Rattle.laws.specs.Search.{Event, enter, leave, entered, Chain}
-use Rattle.laws.proofs.Tests.{by_test, one_eq, one_ne}
+use Rattle.laws.proofs.Tests.{one_eq, one_ne}
 use Rattle.laws.proofs.Bags.{map-append}
-use Rattle.laws.proofs.Indices.{at_in, index_of}
 use Rattle.laws.proofs.Words.{get_d_set, part-before, part-more}
 use Rattle.laws.proofs.Events.{ins, outs, ins_append, outs_append, Apart, apart_enter, entered-length, entered_fits}
 use Rattle.laws.proofs.Stacks.{stack_same, stack_push, stack_top, Open, open_push, open_pop, open_loop, open_once, open_apart, resume, resume_pop, resume_push}

@@ -1,10 +1,8 @@
 -- The state of the visits in the work words, over any function `nx` that says where one goes from a place. With m places: the marks from 0,
 -- the stack from m, the events from 2 * m.
-use Rattle.std.specs.Prelude.{◌≡◌, Bool, true, false, List, [], ◌∷◌, map, ℕ, zero, suc, ◌+◌, ◌-◌, ◌*◌, ◌/◌, ◌%◌, ◌<◌, ◌≤◌, length, get_or, set}
-use Rattle.laws.specs.Tests.{if◌then◌else◌, ◌==◌}
-use Rattle.laws.specs.Lists.{over, upto}
+use Rattle.std.specs.Prelude.{◌≡◌, Bool, true, false, List, map, ℕ, zero, suc, ◌+◌, ◌-◌, ◌*◌, ◌/◌, ◌%◌, ◌<◌, ◌≤◌, length, get_or, set, if◌then◌else◌, ◌==◌}
 use Rattle.laws.specs.Words.{part, stack_of}
-use Rattle.laws.specs.Search.{Event, enter, leave, entered, explore, Chain}
+use Rattle.laws.specs.Search.{Event, enter, leave, entered, Chain}
 use Rattle.laws.proofs.Events.{ins, outs, explore_at}
 use Rattle.laws.proofs.Stacks.{Open, resume}
 use Rattle.rules.specs.Netlist.{Netlist, size}

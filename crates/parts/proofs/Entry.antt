@@ -1,10 +1,8 @@
 -- The graph check, then the split.
 use mathlib.Core.Path.{◌≡◌, refl, sym, ap, subst, ◌∙◌}
-use mathlib.Core.Bool.{Bool, true, false, ◌&&◌}
+use mathlib.Core.Bool.{Bool, true, ◌&&◌}
 use mathlib.Core.List.{List}
-use mathlib.Core.Option.{some}
-use Prim.Native.Nat.{ℕ, zero, suc, ◌+◌, ◌<◌, ◌≤◌}
-use native.Mathlib.Omega.{arith}
+use Prim.Native.Nat.{ℕ}
 use lib.ListN.{length}
 use borrow.Author.Tests.{leb-true}
 use Rattle.laws.specs.Tests.{◌≤?◌, or_else}
@@ -22,7 +20,7 @@ use Rattle.graphs.specs.Parts.{lent as words_of}
 use Rattle.subsets.proofs.Full.{nonzero}
 use Rattle.asked.specs.Answer.{lists_fit, Parts, late_number, Parted1}
 use Rattle.asked.proofs.Graphs.{sound_by}
-use Rattle.parts.specs.Answer.{number_of, stage_of, Split}
+use Rattle.parts.specs.Answer.{stage_of, Split}
 
 module _ (c : GraphCounts) (ws os ds rs chosen before : List ℕ) (level : ℕ) (h t w h₁ t₁ w₁ : List ℕ)
     (eh : h₁ ≡ zeros (length h)) (et : t₁ ≡ zeros (length t)) (ew : w₁ ≡ zeros (length w)) where

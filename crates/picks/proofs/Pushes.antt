@@ -2,20 +2,18 @@
 use mathlib.Core.Path.{◌≡◌, refl, sym, ap, subst, ◌∙◌}
 use mathlib.Core.Bool.{Bool, true, false}
 use mathlib.Core.List.{List, [], ◌∷◌, ◌++◌, append-nil, append_assoc}
-use Prim.Native.Nat.{ℕ, zero, suc, ◌+◌, ◌-◌, ◌*◌, ◌<◌, ◌≤◌}
+use Prim.Native.Nat.{ℕ, zero, suc, ◌+◌, ◌*◌, ◌<◌, ◌≤◌}
 use native.Mathlib.Numerals.{add-one}
 use native.Mathlib.Omega.{arith}
 use lib.ListN.{length, get_or, take, drop, set, length-set, length-append}
 use lib.Seq.{take-suc, take_all}
 use borrow.Author.Tests.{eq-eqb, ne_eqb}
-use Rattle.laws.specs.Tests.{◌==◌}
 use Rattle.laws.specs.Lists.{keep}
-use Rattle.laws.specs.Words.{part, ZeroFrom}
-use Rattle.laws.proofs.Tests.{by_test, true≢false}
+use Rattle.laws.specs.Words.{part}
+use Rattle.laws.proofs.Tests.{true≢false}
 use Rattle.laws.proofs.Bags.{keep_append}
-use Rattle.laws.proofs.Words.{part_none, part-more, part-before, part_length, part_at, part_is, zero_from_more}
+use Rattle.laws.proofs.Words.{part_none, part-more, part_length, part_at, part_is, zero_from_more}
 use Rattle.rules.specs.declared.GraphCounts.{GraphCounts}
-use Rattle.rules.specs.Answers.{endpoints}
 use Rattle.reads.specs.Reads.{ins_of}
 use Rattle.levels.specs.State.{Lefts}
 use Rattle.members.specs.Set.{SetIn}

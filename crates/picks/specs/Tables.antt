@@ -1,6 +1,5 @@
 -- Tests by the words of levels and stops, and what it is to write behind what a table holds already.
-use Rattle.std.specs.Prelude.{◌≡◌, Bool, true, false, List, [], ◌∷◌, ◌++◌, ℕ, ◌+◌, ◌*◌, ◌<◌, ◌≤◌, length, get_or, drop}
-use Rattle.laws.specs.Tests.{◌==◌}
+use Rattle.std.specs.Prelude.{◌≡◌, Bool, true, false, List, ◌++◌, ℕ, ◌+◌, ◌<◌, ◌≤◌, length, get_or, drop, ◌==◌}
 use Rattle.laws.specs.Lists.{keep, every}
 use Rattle.laws.specs.Words.{part, ZeroFrom}
 use Rattle.rules.specs.declared.GraphCounts.{GraphCounts}

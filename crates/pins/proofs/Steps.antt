@@ -6,7 +6,8 @@ use Prim.Native.Nat.{ℕ, ◌<◌, ◌≤◌}
 use native.Mathlib.Omega.{arith}
 use lib.ListN.{length, get_or}
 use borrow.Author.Tests.{le-ltb, lt-ltb, ltb-true, leb-true, eqb-true}
-use Rattle.laws.specs.Tests.{◌==◌, ◌<?◌, ◌≤?◌, same}
+use Rattle.std.specs.Prelude.{◌==◌}
+use Rattle.laws.specs.Tests.{◌<?◌, ◌≤?◌, same}
 use Rattle.laws.specs.Lists.{any, every}
 use Rattle.laws.proofs.Tests.{by_test, true≢false, and_l, and_r, or_cases}
 use Rattle.rules.specs.Netlist.{Slot, Kind, top, and2, inv, buf, dff, clock_gate, ram, unfit, slots, kind_of}

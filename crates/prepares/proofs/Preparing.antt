@@ -5,13 +5,13 @@ use mathlib.Core.List.{List, map}
 use Prim.Native.Nat.{ℕ, ◌+◌, ◌*◌, ◌≤◌, ◌<◌}
 use native.Mathlib.Omega.{arith}
 use lib.ListN.{length, get_or, replicate}
-use Rattle.laws.specs.Tests.{or_else, refuse}
+use Rattle.laws.specs.Tests.{refuse}
 use Rattle.laws.specs.Words.{zeros}
 use Rattle.laws.proofs.Tests.{first_refused, next-refused, refused, passed}
 use Rattle.laws.proofs.Words.{part_same, zeros_at, zeros-length}
-use Rattle.rules.specs.Netlist.{Netlist, size}
+use Rattle.rules.specs.Netlist.{Netlist}
 use Rattle.rules.specs.Build.{events}
-use Rattle.rules.specs.Refusals.{check_number, mark_free, netlist_number, Accepted}
+use Rattle.rules.specs.Refusals.{check_number, mark_free, netlist_number}
 use Rattle.rules.proofs.Accepts.{accepted_iff}
 use Rattle.roles.specs.Reading.{tables, Fits}
 use Rattle.words.specs.Tables.{written}
@@ -19,7 +19,7 @@ use Rattle.words.proofs.Tables.{written-length, written_at, written_after}
 use Rattle.orders.specs.State.{event_of, events_of}
 use Rattle.markers.specs.Marks.{LaidOut}
 use Rattle.checks.specs.Ready.{Checked, Tested}
-use Rattle.prepares.specs.Prepared.{Cleared, Prepared, prepared, turned_away}
+use Rattle.prepares.specs.Prepared.{Prepared, prepared, turned_away}
 
 order-kept : (v w : List ℕ) (a : ℕ) → a + a ≤ length v → length w ≡ length v → ((j : ℕ) → a ≤ j → get_or w j 0 ≡ get_or v j 0) → events_of w a a ≡ events_of v a a
 unfolding events_of

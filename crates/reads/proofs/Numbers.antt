@@ -1,24 +1,18 @@
 -- The literals of an endpoint by number, in the code's shape, and its inputs one literal after the other.
 use mathlib.Core.Path.{◌≡◌, refl, sym, ap, ◌∙◌}
-use mathlib.Core.Bool.{Bool, true, false}
-use mathlib.Core.List.{List, [], ◌∷◌, ◌++◌, map, append-nil}
-use Prim.Native.Nat.{ℕ, zero, suc, ◌+◌, ◌-◌, ◌*◌, ◌/◌, ◌%◌, ◌<◌, ◌≤◌}
-use native.Mathlib.Numerals.{add-one}
+use mathlib.Core.List.{List, [], ◌∷◌, map}
+use Prim.Native.Nat.{ℕ, ◌+◌, ◌-◌, ◌*◌, ◌/◌, ◌%◌, ◌<◌, ◌≤◌}
 use native.Mathlib.Omega.{arith}
-use lib.ListN.{length, get_or, take, length-map}
-use lib.Seq.{take-suc, take_all}
+use lib.ListN.{length, get_or}
 use borrow.Author.Tests.{lt-ltb, le-ltb, eq-eqb, ne_eqb}
-use Rattle.laws.specs.Tests.{if◌then◌else◌, ◌==◌, ◌<?◌}
-use Rattle.laws.specs.Lists.{keep, upto}
-use Rattle.laws.proofs.Bags.{map-append, keep_append, length-keep}
+use Rattle.laws.specs.Lists.{upto}
 use Rattle.laws.proofs.Ranges.{map-upto, length-map-upto}
-use Rattle.laws.proofs.Indices.{map_at}
 use Rattle.rules.specs.declared.GraphCounts.{GraphCounts}
-use Rattle.rules.specs.Graph.{pin_of, no_record, no_ram, dff_at, ram_at}
-use Rattle.rules.specs.Stages.{dff_reads, ram_reads, reads, reads_of, inputs_of, endpoint_of, endpoint_by}
-use Rattle.rules.specs.Tables.{record_in, ram_in, graph_in}
+use Rattle.rules.specs.Graph.{no_record, no_ram}
+use Rattle.rules.specs.Stages.{dff_reads, ram_reads}
+use Rattle.rules.specs.Tables.{record_in, ram_in}
 use Rattle.rules.specs.Answers.{endpoints}
-use Rattle.reads.specs.Reads.{Lent, records_of, reads_in, ins_of, ins_to, reads_long, turn_word, ram_read}
+use Rattle.reads.specs.Reads.{Lent, reads_in, reads_long, turn_word, ram_read}
 
 -- ---- how many
 module _ (c : GraphCounts) (e : ℕ) where

@@ -1,6 +1,6 @@
 -- What an endpoint reads, by number, in the words of a graph.
-use Rattle.std.specs.Prelude.{◌≡◌, List, [], ℕ, ◌+◌, ◌-◌, ◌*◌, ◌/◌, ◌%◌, ◌≤◌, length, get_or, take}
-use Rattle.laws.specs.Tests.{if◌then◌else◌, ◌==◌, ◌<?◌}
+use Rattle.std.specs.Prelude.{◌≡◌, List, [], ℕ, ◌+◌, ◌-◌, ◌*◌, ◌/◌, ◌%◌, ◌≤◌, length, get_or, take, if◌then◌else◌, ◌==◌}
+use Rattle.laws.specs.Tests.{◌<?◌}
 use Rattle.rules.specs.declared.GraphCounts.{GraphCounts}
 use Rattle.rules.specs.Stages.{reads, inputs_of}
 use Rattle.rules.specs.Tables.{GraphWords, graph_in}

@@ -7,7 +7,7 @@ use native.Mathlib.Omega.{arith}
 use lib.ListN.{length, get_or, set, length-set}
 use lib.Seq.{get_or-set_same, get_or-set_other}
 use borrow.Author.Tests.{eqb-true, eqb-false}
-use Rattle.laws.specs.Tests.{◌==◌}
+use Rattle.std.specs.Prelude.{◌==◌}
 use Rattle.laws.proofs.Tests.{by_test, true≢false}
 use Rattle.marks.specs.Marking.{Clear}
 use Rattle.pins.specs.Words.{pin_at}

@@ -2,20 +2,20 @@
 use mathlib.Core.Path.{◌≡◌, refl, sym, ◌∙◌, ap, ap₂}
 use mathlib.Core.Bool.{Bool, true, false, ◌||◌}
 use mathlib.Core.List.{List, [], ◌∷◌}
-use Prim.Native.Nat.{ℕ, zero, suc, ◌+◌, ◌-◌, ◌*◌, ◌<◌, ◌≤◌}
+use Prim.Native.Nat.{ℕ, suc, ◌+◌, ◌-◌, ◌*◌, ◌<◌, ◌≤◌}
 use native.Mathlib.Numerals.{add-one}
 use native.Mathlib.Omega.{arith}
 use lib.ListN.{length, get_or, take, drop}
 use lib.Seq.{drop-cons, drop-length}
 use borrow.Author.Tests.{eq-eqb, ne_eqb}
-use Rattle.laws.specs.Tests.{◌==◌, one}
+use Rattle.std.specs.Prelude.{◌==◌}
+use Rattle.laws.specs.Tests.{one}
 use Rattle.laws.specs.Lists.{keep}
 use Rattle.laws.specs.Words.{part}
-use Rattle.laws.proofs.Tests.{by_test, true≢false}
+use Rattle.laws.proofs.Tests.{by_test}
 use Rattle.laws.proofs.Words.{part_length, part_at}
-use Rattle.roles.specs.declared.Entry.{Entry}
 use Rattle.roles.specs.declared.Entry.TheVariants.{Pin, Absent}
-use Rattle.roles.specs.Reading.{Held, Laid, has_name, either_in, entry_of, cell_pins}
+use Rattle.roles.specs.Reading.{Held, Laid, has_name, either_in, entry_of}
 
 -- ---- one of two names
 module _ (x a b : ℕ) where

@@ -1,15 +1,14 @@
 -- Netlist tables that fit: what lies within what.
-use mathlib.Core.Path.{◌≡◌, refl, sym, ◌∙◌, ap}
+use mathlib.Core.Path.{◌≡◌, sym, ◌∙◌, ap}
 use mathlib.Core.List.{List}
 use Prim.Native.Nat.{ℕ, zero, suc, ◌+◌, ◌-◌, ◌*◌, ◌<◌, ◌≤◌}
 use native.Mathlib.Omega.{arith}
-use lib.ListN.{length, get_or, take, drop}
-use Rattle.laws.specs.Lists.{count}
+use lib.ListN.{length, get_or}
 use Rattle.laws.specs.Words.{part}
 use Rattle.laws.proofs.Indices.{at_in}
 use Rattle.laws.proofs.Words.{part_length, part_at}
-use Rattle.rules.specs.Netlist.{Netlist, cells, size, start_of, cell_of, net_of, net_count}
-use Rattle.rules.proofs.Tables.{first_start, last_start, starts_rise, in_cell, cell_fits, net_fits_lem}
+use Rattle.rules.specs.Netlist.{Netlist, cells, size, start_of}
+use Rattle.rules.proofs.Tables.{last_start, starts_rise, in_cell, cell_fits, net_fits_lem}
 use Rattle.roles.specs.Reading.{tables, Fits, Laid, cell_pins}
 
 module _ (n : Netlist) (f : Fits n) where

@@ -1,23 +1,24 @@
 -- Roles and visits, in the code's shape.
 use mathlib.Core.Path.{◌≡◌, refl, sym, ◌∙◌, ap, ap₂}
-use mathlib.Core.Bool.{Bool, true, false, ◌||◌}
+use mathlib.Core.Bool.{Bool, true, false}
 use mathlib.Core.List.{List, [], ◌∷◌}
 use Prim.Native.Nat.{ℕ, zero, suc, ◌+◌, ◌-◌, ◌*◌, ◌/◌, ◌%◌, ◌<◌, ◌≤◌}
 use native.Mathlib.Omega.{arith}
-use lib.ListN.{length, get_or, take, drop}
+use lib.ListN.{length, get_or}
 use borrow.Author.Tests.{eq-eqb, ne_eqb, eqb-true, eqb-false}
-use Rattle.laws.specs.Tests.{◌==◌, one}
+use Rattle.std.specs.Prelude.{◌==◌}
+use Rattle.laws.specs.Tests.{one}
 use Rattle.laws.specs.Lists.{keep}
 use Rattle.laws.proofs.Tests.{by_test}
-use Rattle.rules.specs.Netlist.{Netlist, Kind, top, and2, inv, buf, dff, clock_gate, ram, unfit, kind_table, cell_of, bit_of, is_out, net_of, net_word, kind_of, named, pin_named, #A, #B, #CP, #E}
-use Rattle.rules.specs.Build.{Role, tied, wire, out_port, in_port, and_out, inv_out, buf_out, gate_out, dff_out, ram_out, nothing, in_role, out_role, role, visits_of, next, set_reset}
+use Rattle.rules.specs.Netlist.{Netlist, Kind, top, and2, inv, buf, dff, clock_gate, ram, unfit, cell_of, kind_of, named, pin_named, #A, #B}
+use Rattle.rules.specs.Build.{Role, tied, wire, out_port, in_port, and_out, inv_out, buf_out, gate_out, dff_out, ram_out, nothing, in_role, out_role, role, visits_of, next}
 use Rattle.rules.proofs.Roles.{out_is, in_is, dff_words}
-use Rattle.kinds.specs.Slots.{digits, kind_word}
+use Rattle.kinds.specs.Slots.{kind_word}
 use Rattle.roles.specs.declared.Entry.{Entry}
 use Rattle.roles.specs.declared.Entry.TheVariants.{Pin, Absent}
 use Rattle.roles.specs.declared.PinRole.{PinRole}
 use Rattle.roles.specs.declared.PinRole.TheVariants.{Tied, Wire, OutPort, InPort, AndOut, InvOut, BufOut, GateOut, DffOut, RamOut, Nothing}
-use Rattle.roles.specs.Reading.{tables, Fits, has_name, either_in, entry_of, cell_pins, kind_at, and_as, says}
+use Rattle.roles.specs.Reading.{tables, Fits, either_in, entry_of, cell_pins, kind_at, and_as, says}
 use Rattle.roles.proofs.Entries.{entry_first, entry_next, entry_none}
 use Rattle.roles.proofs.Fitting.{cell_inside}
 

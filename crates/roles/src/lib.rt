@@ -1,8 +1,8 @@
 // A netlist read off its words: what a pin is, the pins of a cell by their names, and where a visit goes.
 #![tactic(auto)]
 
-ghost use Rattle.std.specs.Prelude.{◌≡◌, ◌||◌, [], ◌∷◌, ℕ, ◌+◌, ◌*◌, ◌<◌, ◌≤◌, length, get_or, take, drop};
-ghost use Rattle.laws.specs.Tests.{◌==◌, one};
+ghost use Rattle.std.specs.Prelude.{◌≡◌, ◌||◌, [], ◌∷◌, ℕ, ◌+◌, ◌*◌, ◌<◌, ◌≤◌, length, get_or, take, drop, ◌==◌};
+ghost use Rattle.laws.specs.Tests.{one};
 ghost use Rattle.rules.specs.Netlist.{named, pin_named};
 ghost use Rattle.rules.specs.Build.{in_role, out_role, role, next};
 ghost use Rattle.roles.specs.Reading.{tables, Fits, Laid, Held, entry_of, either_in, cell_pins, kind_at, and_as, says};

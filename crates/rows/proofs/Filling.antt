@@ -9,7 +9,8 @@ use lib.ListN.{length, get_or, take, drop, set}
 use lib.Seq.{drop-cons, drop-length}
 use borrow.Author.Tests.{eq-eqb, ne_eqb, lt-ltb, ltb-true}
 use Rattle.laws.proofs.Tests.{by_test}
-use Rattle.laws.specs.Tests.{◌==◌, ◌<?◌}
+use Rattle.std.specs.Prelude.{◌==◌}
+use Rattle.laws.specs.Tests.{◌<?◌}
 use Rattle.laws.specs.Lists.{count, keep, first_or}
 use Rattle.laws.specs.Words.{part}
 use Rattle.laws.proofs.Bags.{here}

@@ -1,6 +1,6 @@
 -- The words of a RAM's row that are read off the literals of its pins.
-use Rattle.std.specs.Prelude.{Bool, ◌&&◌, List, ℕ, ◌+◌, ◌-◌, ◌*◌, ◌/◌, get_or}
-use Rattle.laws.specs.Tests.{if◌then◌else◌, ◌==◌, ◌<?◌}
+use Rattle.std.specs.Prelude.{Bool, ◌&&◌, List, ℕ, ◌+◌, ◌-◌, ◌*◌, ◌/◌, get_or, if◌then◌else◌, ◌==◌}
+use Rattle.laws.specs.Tests.{◌<?◌}
 use Rattle.laws.specs.Lists.{first_or}
 use Rattle.rules.specs.Netlist.{Netlist, named_bit, #R_ADDR, #R_DATA, #W_ADDR, #W_DATA, #W_EN}
 use Rattle.activity.specs.Traced.{lits}

@@ -1,8 +1,7 @@
 // The words of a RAM's row that are read off the literals of its pins: addresses, data, and write enables before their ANDs.
 #![tactic(auto)]
 
-ghost use Rattle.std.specs.Prelude.{◌≡◌, false, ◌+◌, ◌*◌, ◌<◌, ◌≤◌, length, take, drop};
-ghost use Rattle.laws.specs.Tests.{◌==◌};
+ghost use Rattle.std.specs.Prelude.{◌≡◌, false, ◌+◌, ◌*◌, ◌<◌, ◌≤◌, length, take, drop, ◌==◌};
 ghost use Rattle.laws.specs.Lists.{keep};
 ghost use Rattle.words.proofs.Tables.{Writing};
 ghost use Rattle.roles.specs.Reading.{tables, Held, entry_of};

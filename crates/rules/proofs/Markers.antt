@@ -4,7 +4,7 @@ use mathlib.Core.Logic.{◌↔◌}
 use mathlib.Core.Bool.{Bool, true, false, not}
 use Prim.Native.Nat.{ℕ}
 use native.Mathlib.Omega.{arith}
-use Rattle.laws.specs.Tests.{◌==◌}
+use Rattle.std.specs.Prelude.{◌==◌}
 use Rattle.laws.proofs.Tests.{by_test, true≢false}
 use Rattle.rules.specs.Netlist.{Netlist, cell_of, is_out, kind_of, Kind, inv, buf, clock_gate, pin_named, #A}
 use Rattle.rules.specs.Cells.{Carried, Logic}

@@ -5,7 +5,7 @@ use mathlib.Core.List.{[], ◌∷◌}
 use Prim.Native.Nat.{ℕ, zero, suc, ◌+◌, ◌<◌}
 use native.Mathlib.Omega.{arith}
 use borrow.Author.Tests.{eqb-true}
-use Rattle.laws.specs.Tests.{◌==◌}
+use Rattle.std.specs.Prelude.{◌==◌}
 use Rattle.laws.specs.Lists.{count}
 use Rattle.laws.proofs.Tests.{by_test, true≢false}
 use Rattle.laws.proofs.Bags.{at_head}

@@ -6,7 +6,8 @@ use Prim.Native.Nat.{ℕ, zero, suc, ◌+◌, ◌-◌, ◌≤◌, ◌<◌}
 use native.Mathlib.Omega.{arith}
 use lib.ListN.{length, get_or, drop}
 use borrow.Author.Tests.{ltb-true, leb-true, eqb-true, eqb-false, eq-eqb, not-true}
-use Rattle.laws.specs.Tests.{◌==◌, ◌<?◌, ◌≤?◌, same, or_else, refuse}
+use Rattle.std.specs.Prelude.{◌==◌}
+use Rattle.laws.specs.Tests.{◌<?◌, ◌≤?◌, same, or_else, refuse}
 use Rattle.laws.specs.Lists.{count, keep, every, any, upto}
 use Rattle.laws.proofs.Tests.{true≢false, and_l, and_r, or_cases, same_true, not_refused, last_refused}
 use Rattle.laws.proofs.Bags.{here, only_one, count-keep, keep_true, keep_le, every_true}

@@ -1,8 +1,8 @@
 -- What each call answers and leaves: its number, 0 for success, by the tests in document 01's order; its result tables; its answer. After any
 -- call all work words are 0. A list of single words that is lent for a result has its length as its room.
-use Rattle.std.specs.Prelude.{Bool, true, ◌&&◌, List, [], ◌∷◌, map, ℕ, zero, suc, ◌+◌, ◌-◌, ◌*◌, length, get_or}
+use Rattle.std.specs.Prelude.{Bool, true, ◌&&◌, List, [], ◌∷◌, map, ℕ, zero, suc, ◌+◌, ◌-◌, ◌*◌, length, get_or, if◌then◌else◌, ◌==◌}
 use Rattle.std.proofs.Math.Option.{some}
-use Rattle.laws.specs.Tests.{if◌then◌else◌, ◌==◌, ◌<?◌, ◌≤?◌, one, or_else, refuse}
+use Rattle.laws.specs.Tests.{◌<?◌, ◌≤?◌, one, or_else, refuse}
 use Rattle.laws.specs.Lists.{every, flat, upto}
 use Rattle.rules.specs.declared.Endpoint.{Endpoint}
 use Rattle.rules.specs.declared.Tally.{Tally}

@@ -1,6 +1,6 @@
 -- Document 01, "Graph and numbering", its second half: the visits, the clock walks, steps 1 to 3, outputs, records, fanouts and tallies.
-use Rattle.std.specs.Prelude.{Bool, true, false, ◌||◌, List, [], ◌∷◌, ◌++◌, map, ℕ, zero, suc, ◌+◌, ◌-◌, ◌*◌, length}
-use Rattle.laws.specs.Tests.{if◌then◌else◌, ◌==◌, one}
+use Rattle.std.specs.Prelude.{Bool, true, false, ◌||◌, List, [], ◌∷◌, ◌++◌, map, ℕ, zero, suc, ◌+◌, ◌-◌, ◌*◌, length, if◌then◌else◌, ◌==◌}
+use Rattle.laws.specs.Tests.{one}
 use Rattle.laws.specs.Lists.{keep, flat, over, upto, first_or, put}
 use Rattle.laws.specs.Sets.{insert}
 use Rattle.laws.specs.Search.{Event, enter, leave, explore}

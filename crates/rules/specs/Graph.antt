@@ -1,7 +1,7 @@
 -- Document 01, "Graph and numbering", its first half: literals, drivers, records, the graph, and the AND of two literals.
-use Rattle.std.specs.Prelude.{Bool, true, false, ◌&&◌, ◌||◌, List, [], ◌∷◌, ◌++◌, ℕ, suc, ◌+◌, ◌-◌, ◌*◌, ◌/◌, ◌%◌, min, max, length, get_or}
+use Rattle.std.specs.Prelude.{Bool, true, false, ◌&&◌, ◌||◌, List, [], ◌∷◌, ◌++◌, ℕ, suc, ◌+◌, ◌-◌, ◌*◌, ◌/◌, ◌%◌, min, max, length, get_or, if◌then◌else◌, ◌==◌}
 use Rattle.std.proofs.Math.Option.{Option, none, some}
-use Rattle.laws.specs.Tests.{if◌then◌else◌, ◌==◌, ◌<?◌}
+use Rattle.laws.specs.Tests.{◌<?◌}
 use Rattle.rules.specs.declared.Literal.{Literal}
 use Rattle.rules.specs.declared.Driver.{Driver}
 use Rattle.rules.specs.declared.Driver.TheVariants.{And, Port, Flag, Dff, Ram, Constant}

@@ -1,6 +1,6 @@
 -- Document 01, "The netlist tables": the tables as lent, their accessors, and the fixed table of kinds with the pins of each.
-use Rattle.std.specs.Prelude.{Bool, true, false, not, ◌&&◌, ◌||◌, List, [], ◌∷◌, ℕ, ◌+◌, ◌-◌, ◌*◌, length, get_or, take, drop}
-use Rattle.laws.specs.Tests.{◌==◌, ◌<?◌, ◌≤?◌, same}
+use Rattle.std.specs.Prelude.{Bool, true, false, not, ◌&&◌, ◌||◌, List, [], ◌∷◌, ℕ, ◌+◌, ◌-◌, ◌*◌, length, get_or, take, drop, ◌==◌}
+use Rattle.laws.specs.Tests.{◌<?◌, ◌≤?◌, same}
 use Rattle.laws.specs.Lists.{count, keep, every, any, upto}
 
 -- ---- the tables

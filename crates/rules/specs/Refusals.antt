@@ -1,8 +1,8 @@
 -- Document 01, "What is turned away", by number. A test that passes means that the number is not given. 1, 2 and 11 speak of counts and
 -- lent tables and are said for each call in `Answers`.
-use Rattle.std.specs.Prelude.{◌≡◌, Bool, true, false, not, ◌&&◌, ◌||◌, List, [], ◌∷◌, ◌++◌, map, ℕ, zero, suc, ◌+◌, ◌*◌, ◌<◌, length}
+use Rattle.std.specs.Prelude.{◌≡◌, Bool, true, false, not, ◌&&◌, ◌||◌, List, [], ◌∷◌, ◌++◌, map, ℕ, zero, suc, ◌+◌, ◌*◌, ◌<◌, length, if◌then◌else◌, ◌==◌}
 use Rattle.std.proofs.Math.Option.{Option, none, some}
-use Rattle.laws.specs.Tests.{if◌then◌else◌, ◌==◌, ◌<?◌, ◌≤?◌, one, or_else, refuse}
+use Rattle.laws.specs.Tests.{◌<?◌, ◌≤?◌, one, or_else, refuse}
 use Rattle.laws.specs.Lists.{count, keep, every, any, flat, upto}
 use Rattle.laws.specs.Search.{level_by, Chain}
 use Rattle.rules.specs.declared.Driver.{Driver}

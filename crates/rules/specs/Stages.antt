@@ -1,7 +1,7 @@
 -- Document 01, "Stages": endpoints and their inputs, traversal, levels, one split, the stages, subsets.
-use Rattle.std.specs.Prelude.{Bool, true, false, not, List, [], ◌∷◌, ◌++◌, map, ℕ, ◌+◌, ◌-◌, ◌*◌, length, get_or}
+use Rattle.std.specs.Prelude.{Bool, true, false, not, List, [], ◌∷◌, ◌++◌, map, ℕ, ◌+◌, ◌-◌, ◌*◌, length, get_or, if◌then◌else◌, ◌==◌}
 use Rattle.std.proofs.Math.Option.{Option, none, some}
-use Rattle.laws.specs.Tests.{if◌then◌else◌, ◌==◌, ◌<?◌, ◌≤?◌, one}
+use Rattle.laws.specs.Tests.{◌<?◌, ◌≤?◌, one}
 use Rattle.laws.specs.Lists.{count, member, keep, every, flat, over, upto, is_nil}
 use Rattle.laws.specs.Sets.{insert, remove}
 use Rattle.laws.specs.Search.{visits, level}

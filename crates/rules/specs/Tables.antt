@@ -1,7 +1,6 @@
 -- How a graph and its stages lie in lent words, and what a lent table holds after a call.
-use Rattle.std.specs.Prelude.{List, [], ◌∷◌, ◌++◌, map, ℕ, zero, suc, ◌+◌, ◌-◌, ◌*◌, length, get_or}
+use Rattle.std.specs.Prelude.{List, [], ◌∷◌, ◌++◌, map, ℕ, zero, suc, ◌+◌, ◌-◌, ◌*◌, length, get_or, if◌then◌else◌, ◌==◌}
 use Rattle.std.proofs.Math.Option.{Option, none, some}
-use Rattle.laws.specs.Tests.{if◌then◌else◌, ◌==◌}
 use Rattle.laws.specs.Lists.{flat, upto}
 use Rattle.laws.specs.Words.{zeros, filled}
 use Rattle.rules.specs.declared.Edge.{Edge}

@@ -1,10 +1,10 @@
 -- Clearing, stops and endpoints that leave, one after the other.
 use mathlib.Core.Path.{◌≡◌, ap, ◌∙◌}
 use mathlib.Core.List.{List}
-use Prim.Native.Nat.{ℕ, ◌+◌, ◌-◌, ◌*◌, ◌≤◌}
+use Prim.Native.Nat.{ℕ, ◌+◌, ◌*◌, ◌≤◌}
 use native.Mathlib.Omega.{arith}
 use lib.ListN.{length, get_or}
-use Rattle.laws.specs.Tests.{if◌then◌else◌}
+use Rattle.std.specs.Prelude.{if◌then◌else◌}
 use Rattle.laws.specs.Lists.{member, over}
 use Rattle.laws.specs.Sets.{remove}
 use Rattle.laws.specs.Words.{part}

@@ -1,6 +1,5 @@
 -- What is settled after a stage that hands pins on.
-use Rattle.std.specs.Prelude.{◌≡◌, List, ℕ, ◌+◌, ◌*◌, ◌<◌, ◌≤◌, length, get_or}
-use Rattle.laws.specs.Tests.{if◌then◌else◌}
+use Rattle.std.specs.Prelude.{◌≡◌, List, ℕ, ◌+◌, ◌*◌, ◌<◌, ◌≤◌, length, get_or, if◌then◌else◌}
 use Rattle.laws.specs.Lists.{member, over}
 use Rattle.laws.specs.Sets.{remove}
 use Rattle.laws.specs.Words.{part}

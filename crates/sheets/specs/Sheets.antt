@@ -1,7 +1,7 @@
 -- The netlist tables of a text that was read: from its numbers, one line after the other, and where each line's begin. Behind the last
 -- line's start stands where the numbers end.
-use Rattle.std.specs.Prelude.{◌≡◌, Bool, true, false, ◌&&◌, List, [], ◌∷◌, ◌++◌, ℕ, zero, suc, ◌+◌, ◌-◌, ◌≤◌, length, get_or}
-use Rattle.laws.specs.Tests.{if◌then◌else◌, ◌==◌, ◌≤?◌}
+use Rattle.std.specs.Prelude.{◌≡◌, List, [], ◌∷◌, ◌++◌, ℕ, zero, suc, ◌+◌, ◌-◌, ◌≤◌, get_or, if◌then◌else◌, ◌==◌}
+use Rattle.laws.specs.Tests.{◌≤?◌}
 use Rattle.texts.specs.declared.Reading.{Reading}
 use Rattle.texts.specs.Text.{stored}
 

@@ -1,14 +1,13 @@
 -- The tests one after the other, in the code's shape; and that they are the first two of building.
-use mathlib.Core.Path.{◌≡◌, refl, sym, ap, ◌∙◌}
-use mathlib.Core.Bool.{Bool, true, false, ◌&&◌}
-use Prim.Native.Nat.{ℕ, ◌+◌, ◌*◌, ◌≤◌, ◌<◌}
+use mathlib.Core.Path.{◌≡◌, sym, ◌∙◌}
+use mathlib.Core.Bool.{Bool, true, false}
+use Prim.Native.Nat.{◌+◌, ◌*◌, ◌≤◌, ◌<◌}
 use borrow.Author.Tests.{eq-eqb, ne_eqb, le-leb, lt-leb}
-use Rattle.laws.specs.Tests.{◌==◌, ◌≤?◌, or_else, refuse}
-use Rattle.laws.proofs.Tests.{by_test}
+use Rattle.std.specs.Prelude.{◌==◌}
+use Rattle.laws.specs.Tests.{◌≤?◌}
 use Rattle.rules.specs.declared.NetlistCounts.{NetlistCounts}
 use Rattle.rules.specs.declared.Rooms.{Rooms}
-use Rattle.rules.specs.Bounds.{build_work, netlist_within, rooms_within}
-use Rattle.rules.specs.Answers.{BuildLengths, rooms_long}
+use Rattle.rules.specs.Bounds.{netlist_within, rooms_within}
 use Rattle.netlist.specs.Tables.{long_by}
 use Rattle.sizes.specs.declared.Sizes.{Sizes}
 use Rattle.sizes.specs.Lengths.{records_long, results_long, sizes_number}

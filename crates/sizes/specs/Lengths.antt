@@ -1,6 +1,6 @@
 -- 1 and 2 of building, by the lengths of its tables.
-use Rattle.std.specs.Prelude.{Bool, ◌&&◌, ℕ, ◌+◌, ◌*◌}
-use Rattle.laws.specs.Tests.{◌==◌, ◌≤?◌, or_else, refuse}
+use Rattle.std.specs.Prelude.{Bool, ◌&&◌, ℕ, ◌+◌, ◌*◌, ◌==◌}
+use Rattle.laws.specs.Tests.{◌≤?◌, or_else, refuse}
 use Rattle.rules.specs.declared.NetlistCounts.{NetlistCounts}
 use Rattle.rules.specs.declared.Rooms.{Rooms}
 use Rattle.rules.specs.Bounds.{build_work, netlist_within, rooms_within}

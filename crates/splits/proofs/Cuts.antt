@@ -1,43 +1,39 @@
 -- A split as the rules say it, by the words that its steps leave.
 use mathlib.Core.Path.{◌≡◌, refl, sym, ap, subst, ◌∙◌}
-use mathlib.Core.Logic.{◌⊎◌, inl, inr}
 use mathlib.Core.Bool.{Bool, true, false, not}
 use mathlib.Core.List.{List, [], ◌∷◌, ◌++◌}
 use mathlib.Core.Option.{some}
-use Prim.Native.Nat.{ℕ, suc, ◌+◌, ◌-◌, ◌*◌, ◌<◌, ◌≤◌}
+use Prim.Native.Nat.{ℕ, ◌+◌, ◌*◌, ◌<◌, ◌≤◌}
 use native.Mathlib.Omega.{arith}
 use lib.ListN.{length, get_or}
-use borrow.Author.Tests.{eq-eqb, ne_eqb}
-use Rattle.laws.specs.Tests.{if◌then◌else◌, ◌==◌, ◌≤?◌, one}
+use Rattle.std.specs.Prelude.{if◌then◌else◌, ◌==◌}
+use Rattle.laws.specs.Tests.{◌≤?◌, one}
 use Rattle.laws.specs.Lists.{count, member, keep, every, flat, over}
 use Rattle.laws.specs.Search.{visits, level}
-use Rattle.laws.specs.Words.{part, ZeroFrom}
-use Rattle.laws.proofs.Tests.{by_test, if_true, if_false, true≢false}
-use Rattle.laws.proofs.Bags.{count-append, member_true, member_false, is_member, no_member, in_flat, of_flat, of_append, here, there, keep_le}
+use Rattle.laws.specs.Words.{part}
+use Rattle.laws.proofs.Tests.{by_test, if_true, if_false}
+use Rattle.laws.proofs.Bags.{member_true, member_false, is_member, no_member, in_flat, of_flat, of_append, here, there}
 use Rattle.laws.proofs.Folds.{over-same}
 use Rattle.laws.proofs.Words.{part_none, part_length, part_at, part_in}
 use Rattle.laws.proofs.Visits.{visits_has, visits_closed}
-use Rattle.laws.proofs.Sets.{Placed}
 use Rattle.rules.specs.declared.GraphCounts.{GraphCounts}
 use Rattle.rules.specs.declared.Endpoint.{Endpoint}
 use Rattle.rules.specs.declared.Endpoint.TheVariants.{Output, Flop, Memory, Handed}
 use Rattle.rules.specs.Graph.{Graph, no_record, no_ram}
 use Rattle.rules.specs.Tables.{graph_in}
-use Rattle.rules.specs.Stages.{dff_reads, ram_reads, reads_of, inputs_of, endpoint_of, Joining, Stage, read, split, low, inputs, back, start, joined, take, takes, final}
+use Rattle.rules.specs.Stages.{dff_reads, ram_reads, reads_of, inputs_of, endpoint_of, Joining, read, split, low, inputs, start, joined, final}
 use Rattle.rules.specs.Answers.{endpoints}
 use Rattle.cuts.proofs.Joining.{begun, join_by, take_by, joins_readers, takes_readers, may}
-use Rattle.walk.specs.State.{goes, list_of, Going, Stops}
+use Rattle.walk.specs.State.{goes, list_of}
 use Rattle.walk.proofs.Leads.{goes_below}
-use Rattle.members.specs.Set.{Within, SetIn}
+use Rattle.members.specs.Set.{SetIn}
 use Rattle.reads.specs.Reads.{records_of, reads_in, ins_of}
 use Rattle.levels.specs.State.{stops_of, Known}
 use Rattle.levels.proofs.Stops.{stops_are, stops_same, list_same, listing_same, keep_same}
-use Rattle.joins.specs.State.{Holds, low_in, Takens}
-use Rattle.picks.specs.Tables.{picks, low_ins, take_test, free_test, Pushed, Pushing, pushed, full}
+use Rattle.joins.specs.State.{Holds, low_in}
+use Rattle.picks.specs.Tables.{picks, low_ins, take_test, free_test}
 use Rattle.clears.specs.State.{Used}
-use Rattle.splits.specs.declared.Spot.{Spot}
-use Rattle.splits.specs.declared.Piece.{Piece}
-use Rattle.splits.specs.State.{graph_of, split_in, Idle, order_in, Prepared, WorkedOut, Stays, CutOff, made, narrow}
+use Rattle.splits.specs.State.{graph_of, split_in, Idle, order_in, Prepared, WorkedOut, Stays}
 
 every-same : (f g : ℕ → Bool) (l : List ℕ) → ((x : ℕ) → 0 < count x l → f x ≡ g x) → every f l ≡ every g l
 every-same f g [] e = refl

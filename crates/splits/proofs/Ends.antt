@@ -1,12 +1,12 @@
 -- How a split ends: its stage stands in the tables, or one of them has too little room.
 use mathlib.Core.Path.{◌≡◌, refl, sym, ap, subst, ◌∙◌}
-use mathlib.Core.Logic.{◌⊎◌, inl, inr}
+use mathlib.Core.Logic.{inl, inr}
 use mathlib.Core.Bool.{Bool, true, false}
-use mathlib.Core.List.{List, [], ◌∷◌, ◌++◌}
+use mathlib.Core.List.{List}
 use Prim.Native.Nat.{ℕ, ◌+◌, ◌-◌, ◌*◌, ◌<◌, ◌≤◌}
 use native.Mathlib.Omega.{arith}
 use lib.ListN.{length, get_or}
-use Rattle.laws.specs.Lists.{count, keep}
+use Rattle.laws.specs.Lists.{count}
 use Rattle.laws.specs.Words.{part}
 use Rattle.laws.proofs.Tests.{true≢false}
 use Rattle.laws.proofs.Bags.{keep_le}
@@ -18,9 +18,8 @@ use Rattle.rules.specs.Answers.{endpoints}
 use Rattle.members.specs.Set.{SetIn}
 use Rattle.levels.specs.State.{stops_of, Lefts}
 use Rattle.joins.specs.State.{Takens}
-use Rattle.picks.specs.Tables.{picks, take_test, free_test, Open, Pushed, Pushing, pushed, full}
+use Rattle.picks.specs.Tables.{picks, take_test, free_test, Pushed, Pushing, pushed, full}
 use Rattle.splits.specs.declared.Spot.{Spot}
-use Rattle.splits.specs.declared.Piece.{Piece}
 use Rattle.splits.specs.State.{split_in, order_in, Idle, Prepared, WorkedOut, CutOff, made, narrow}
 use Rattle.splits.proofs.Cuts.{taken_is, handed_is, cut_used, cut_stays}
 

@@ -1,13 +1,12 @@
 -- From idle words to visits, levels and readers.
-use mathlib.Core.Path.{◌≡◌, refl, sym, ap, subst, ◌∙◌}
-use mathlib.Core.Bool.{Bool, true, false}
-use mathlib.Core.List.{List, [], ◌∷◌, ◌++◌}
-use Prim.Native.Nat.{ℕ, suc, ◌+◌, ◌-◌, ◌*◌, ◌<◌, ◌≤◌}
+use mathlib.Core.Path.{◌≡◌, sym, ap, subst, ◌∙◌}
+use mathlib.Core.List.{List, []}
+use Prim.Native.Nat.{ℕ, ◌+◌, ◌*◌, ◌<◌, ◌≤◌}
 use native.Mathlib.Omega.{arith}
-use lib.ListN.{length, get_or}
-use Rattle.laws.specs.Tests.{if◌then◌else◌}
+use lib.ListN.{length}
+use Rattle.std.specs.Prelude.{if◌then◌else◌}
 use Rattle.laws.specs.Lists.{count, member, flat, over}
-use Rattle.laws.specs.Search.{visits, level}
+use Rattle.laws.specs.Search.{level}
 use Rattle.laws.specs.Words.{part}
 use Rattle.laws.proofs.Bags.{count-append}
 use Rattle.laws.proofs.Words.{part_none, part_length, part_in}
@@ -17,7 +16,6 @@ use Rattle.rules.specs.Answers.{endpoints}
 use Rattle.walk.specs.State.{goes, list_of, Going}
 use Rattle.walk.proofs.Leads.{goes_below}
 use Rattle.walk.proofs.Visits.{walk_begins}
-use Rattle.members.specs.Set.{SetIn}
 use Rattle.reads.specs.Reads.{Lent, ins_of}
 use Rattle.reads.proofs.Inputs.{ins_few}
 use Rattle.levels.specs.State.{stops_of, Spare, Lefts, Gathered, Ranks, Levelled}

@@ -1,14 +1,12 @@
 -- Joining and reading, one after the other.
-use mathlib.Core.Path.{◌≡◌, refl, sym, ap, subst, ◌∙◌}
-use mathlib.Core.List.{List, [], ◌∷◌}
-use Prim.Native.Nat.{ℕ, ◌+◌, ◌*◌, ◌<◌, ◌≤◌}
-use lib.ListN.{length, get_or}
+use mathlib.Core.Path.{subst}
+use mathlib.Core.List.{List}
+use Prim.Native.Nat.{ℕ, ◌*◌}
 use Rattle.laws.specs.Lists.{flat, over}
-use Rattle.laws.specs.Words.{part}
 use Rattle.laws.proofs.Folds.{over-flat}
 use Rattle.rules.specs.declared.GraphCounts.{GraphCounts}
 use Rattle.rules.specs.Stages.{read}
-use Rattle.cuts.proofs.Joining.{join_by, take_by}
+use Rattle.cuts.proofs.Joining.{join_by}
 use Rattle.walk.specs.State.{goes, list_of}
 use Rattle.members.specs.Set.{SetIn}
 use Rattle.members.proofs.Frames.{within_on}

@@ -10,7 +10,8 @@ use native.Mathlib.Omega.{arith}
 use lib.ListN.{length, get_or, drop, length-append}
 use lib.Seq.{drop-cons, drop-length}
 use borrow.Author.Tests.{le-leb, ltb-true, ltb-false}
-use Rattle.laws.specs.Tests.{if◌then◌else◌, ◌<?◌}
+use Rattle.std.specs.Prelude.{if◌then◌else◌}
+use Rattle.laws.specs.Tests.{◌<?◌}
 use Rattle.laws.specs.Lists.{member, keep, every, over, is_nil, upto}
 use Rattle.laws.specs.Search.{level}
 use Rattle.laws.specs.Sets.{remove}
@@ -23,7 +24,7 @@ use Rattle.rules.specs.declared.GraphCounts.{GraphCounts}
 use Rattle.rules.specs.declared.Driver.TheVariants.{Constant}
 use Rattle.rules.specs.Graph.{Graph, operands, driver_of}
 use Rattle.rules.specs.Tables.{driver_or, decode_at, record_in, ram_in, graph_in, end_marker, row_words, all_handed, all_taken}
-use Rattle.rules.specs.Stages.{Stage, Row, row, onward, split, stages_from, stages, back, within, inputs, order, start, endpoint_count}
+use Rattle.rules.specs.Stages.{Stage, Row, row, onward, split, stages_from, back, within, inputs, order, start, endpoint_count}
 use Rattle.rules.specs.Refusals.{something_read, rising}
 use Rattle.rules.specs.Answers.{endpoints, stage_rows}
 use Rattle.cuts.specs.Checked.{Checked}

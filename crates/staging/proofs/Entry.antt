@@ -2,10 +2,11 @@
 use mathlib.Core.Path.{◌≡◌, refl, sym, ap, subst, ◌∙◌}
 use mathlib.Core.Bool.{Bool, true, ◌&&◌}
 use mathlib.Core.List.{List}
-use Prim.Native.Nat.{ℕ, ◌*◌, ◌≤◌}
+use Prim.Native.Nat.{ℕ, ◌*◌}
 use lib.ListN.{length}
 use borrow.Author.Tests.{leb-true, eqb-true}
-use Rattle.laws.specs.Tests.{◌==◌, ◌≤?◌, or_else}
+use Rattle.std.specs.Prelude.{◌==◌}
+use Rattle.laws.specs.Tests.{◌≤?◌, or_else}
 use Rattle.laws.specs.Lists.{every}
 use Rattle.laws.specs.Words.{zeros}
 use Rattle.laws.proofs.Tests.{and_l, and_r, first_refused, next-refused}

@@ -1,16 +1,16 @@
 -- Endpoints by number, and the places of a stage: each test in the code's shape.
-use mathlib.Core.Path.{◌≡◌, refl, sym, ap, ◌∙◌}
+use mathlib.Core.Path.{◌≡◌, sym, ap, ◌∙◌}
 use mathlib.Core.Bool.{Bool, true, false, ◌&&◌}
 use mathlib.Core.List.{List}
 use Prim.Native.Nat.{ℕ, ◌+◌, ◌-◌, ◌<◌, ◌≤◌}
 use native.Mathlib.Omega.{arith}
 use lib.ListN.{length, get_or}
 use borrow.Author.Tests.{le-leb, lt-leb, le-ltb, lt-ltb, ltb-true}
-use Rattle.laws.specs.Tests.{if◌then◌else◌, ◌<?◌, ◌≤?◌, or_else, refuse}
-use Rattle.laws.proofs.Tests.{by_test, and_l, true≢false}
+use Rattle.std.specs.Prelude.{if◌then◌else◌}
+use Rattle.laws.specs.Tests.{◌<?◌, ◌≤?◌}
+use Rattle.laws.proofs.Tests.{and_l}
 use Rattle.rules.specs.declared.Endpoint.{Endpoint}
 use Rattle.rules.specs.declared.Endpoint.TheVariants.{Output, Flop, Memory, Handed}
-use Rattle.rules.specs.declared.Found.{Found}
 use Rattle.rules.specs.declared.Found.TheVariants.{At, Refused}
 use Rattle.rules.specs.declared.GraphCounts.{GraphCounts}
 use Rattle.rules.specs.Bounds.{max_graph_pins, max_rows, graph_within}

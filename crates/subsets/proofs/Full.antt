@@ -1,20 +1,19 @@
 -- The whole graph as one stage: the numbers below a count written upward, and the answer.
-use mathlib.Core.Path.{◌≡◌, refl, sym, ap, subst, ◌∙◌}
+use mathlib.Core.Path.{◌≡◌, refl, sym, ap, ◌∙◌}
 use mathlib.Core.Bool.{Bool, true, false, ◌&&◌}
-use mathlib.Core.List.{List, [], ◌∷◌, ◌++◌}
+use mathlib.Core.List.{List}
 use Prim.Native.Nat.{ℕ, zero, suc, ◌+◌, ◌<◌, ◌≤◌}
 use native.Mathlib.Numerals.{add-one}
 use native.Mathlib.Omega.{arith}
 use lib.ListN.{length, set, length-set}
 use borrow.Author.Tests.{le-leb, lt-leb, leb-true}
-use Rattle.laws.specs.Tests.{◌≤?◌, or_else, refuse}
+use Rattle.laws.specs.Tests.{◌≤?◌, refuse}
 use Rattle.laws.specs.Lists.{upto}
 use Rattle.laws.specs.Words.{zeros, filled}
 use Rattle.laws.proofs.Tests.{and_l, and_r, or_zero, last_refused}
-use Rattle.laws.proofs.Words.{zeros-length, filled_none, filled_more, filled-length}
+use Rattle.laws.proofs.Words.{zeros-length, filled_none, filled_more}
 use Rattle.laws.proofs.Ranges.{length-upto}
 use Rattle.rules.specs.declared.GraphCounts.{GraphCounts}
-use Rattle.rules.specs.declared.Parted.{Parted}
 use Rattle.rules.specs.declared.Parted.TheVariants.{Stage, Refused}
 use Rattle.rules.specs.Bounds.{graph_within}
 use Rattle.rules.specs.Stages.{full_stage}

@@ -1,7 +1,7 @@
 -- A subset by places: those of handed-on pins lead, so each half is a part of the list; and what is picked by it.
-use mathlib.Core.Path.{◌≡◌, refl, sym, ap, ap₂, subst, ◌∙◌}
+use mathlib.Core.Path.{◌≡◌, refl, sym, ap, subst, ◌∙◌}
 use mathlib.Core.Bool.{Bool, true, false, ◌&&◌}
-use mathlib.Core.List.{List, [], ◌∷◌, ◌++◌, map}
+use mathlib.Core.List.{List, [], ◌∷◌}
 use Prim.Native.Nat.{ℕ, zero, suc, ◌+◌, ◌-◌, ◌<◌, ◌≤◌}
 use native.Mathlib.Numerals.{add-one}
 use native.Mathlib.Omega.{arith}
@@ -11,10 +11,10 @@ use borrow.Author.Tests.{le-leb, lt-leb, le-ltb, lt-ltb, leb-true, ltb-true, ltb
 use Rattle.laws.specs.Tests.{◌<?◌, ◌≤?◌, or_else, refuse}
 use Rattle.laws.specs.Lists.{keep, every}
 use Rattle.laws.specs.Words.{zeros, filled, part}
-use Rattle.laws.proofs.Tests.{by_test, and_l, and_r, and_both, or_zero, last_refused, both_true}
+use Rattle.laws.proofs.Tests.{by_test, and_l, and_r, and_both, or_zero, last_refused}
 use Rattle.laws.proofs.Bags.{map-append, map_same}
 use Rattle.laws.proofs.Indices.{every_at}
-use Rattle.laws.proofs.Words.{zeros-length, filled_none, filled_more, part_suc, part_none, part_length, part_at}
+use Rattle.laws.proofs.Words.{zeros-length, filled_none, filled_more, part_suc, part_none, part_length}
 use Rattle.rules.specs.declared.Parted.{Parted}
 use Rattle.rules.specs.declared.Parted.TheVariants.{Stage as PartedStage, Refused}
 use Rattle.rules.specs.Stages.{Stage, subset}

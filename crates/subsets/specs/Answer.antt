@@ -1,6 +1,6 @@
 -- What the calls that read no driver answer and leave, and the parts of their numbers as the code tests them.
-use Rattle.std.specs.Prelude.{◌≡◌, Bool, true, ◌&&◌, List, [], ◌∷◌, map, ℕ, suc, ◌+◌, ◌-◌, ◌<◌, ◌≤◌, length, get_or, drop}
-use Rattle.laws.specs.Tests.{if◌then◌else◌, ◌<?◌, ◌≤?◌, or_else, refuse}
+use Rattle.std.specs.Prelude.{◌≡◌, Bool, true, ◌&&◌, List, [], ◌∷◌, map, ℕ, suc, ◌+◌, ◌-◌, ◌<◌, ◌≤◌, length, get_or, drop, if◌then◌else◌}
+use Rattle.laws.specs.Tests.{◌<?◌, ◌≤?◌, or_else, refuse}
 use Rattle.laws.specs.Lists.{every, upto}
 use Rattle.laws.specs.Words.{zeros}
 use Rattle.rules.specs.declared.Endpoint.{Endpoint}

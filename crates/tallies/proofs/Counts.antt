@@ -1,11 +1,12 @@
 -- Each tally is the count of such entries: one entry more in a table is one more in its tally, and in no other.
-use mathlib.Core.Path.{◌≡◌, refl, sym, ap, ◌∙◌}
+use mathlib.Core.Path.{◌≡◌, refl, ap, ◌∙◌}
 use mathlib.Core.Bool.{Bool, true, false}
 use mathlib.Core.List.{List, [], ◌∷◌, ◌++◌}
 use Prim.Native.Nat.{ℕ, ◌+◌, ◌-◌, ◌≤◌, ◌<◌}
 use native.Mathlib.Omega.{arith}
 use lib.ListN.{length, length-append}
-use Rattle.laws.specs.Tests.{one, if◌then◌else◌}
+use Rattle.std.specs.Prelude.{if◌then◌else◌}
+use Rattle.laws.specs.Tests.{one}
 use Rattle.laws.specs.Lists.{keep}
 use Rattle.laws.proofs.Tests.{one_le}
 use Rattle.laws.proofs.Bags.{keep_append}

@@ -1,6 +1,6 @@
 -- What a caller in C is told of an answer: its number, and three counts.
-use Rattle.std.specs.Prelude.{◌≡◌, List, [], ◌∷◌, ℕ, zero, suc, length}
-use Rattle.laws.specs.Tests.{if◌then◌else◌, ◌==◌, ◌≤?◌, or_else, refuse}
+use Rattle.std.specs.Prelude.{◌≡◌, List, [], ◌∷◌, ℕ, zero, suc, length, if◌then◌else◌, ◌==◌}
+use Rattle.laws.specs.Tests.{◌≤?◌, or_else, refuse}
 use Rattle.laws.specs.Words.{zeros}
 use Rattle.rules.specs.declared.Done.{Done}
 use Rattle.rules.specs.declared.Done.TheVariants.{Accepted, Refused as DoneRefused}

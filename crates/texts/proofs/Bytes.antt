@@ -1,18 +1,19 @@
 -- Laws of text as bytes: what stands before a byte, lines and fields from a place on, digits, and words stored in a table.
 use mathlib.Core.Path.{◌≡◌, refl, sym, ◌∙◌, ap, subst}
-use mathlib.Core.Bool.{Bool, true, false, ◌&&◌}
+use mathlib.Core.Bool.{false}
 use mathlib.Core.List.{List, [], ◌∷◌, ◌++◌}
-use Prim.Native.Nat.{ℕ, zero, suc, ◌+◌, ◌-◌, ◌*◌, ◌<◌, ◌≤◌}
+use Prim.Native.Nat.{ℕ, suc, ◌+◌, ◌-◌, ◌*◌, ◌<◌, ◌≤◌}
 use native.Mathlib.Omega.{arith}
 use native.Mathlib.Numerals.{add-one}
 use borrow.Author.Tests.{eqb-true, eqb-false, eq-eqb, ne_eqb, le-leb, lt-leb, leb-true, leb-false}
-use lib.ListN.{length, get_or, take, drop, set, length-drop, length-append, length-set}
+use lib.ListN.{length, get_or, take, drop, set, length-drop, length-set}
 use lib.Seq.{drop-cons, drop-length, drop-drop, set_out}
-use Rattle.laws.specs.Tests.{if◌then◌else◌, ◌==◌, ◌≤?◌}
-use Rattle.laws.proofs.Tests.{by_test, true≢false, both_true, if_true, if_false}
+use Rattle.std.specs.Prelude.{◌==◌}
+use Rattle.laws.specs.Tests.{◌≤?◌}
+use Rattle.laws.proofs.Tests.{by_test, if_true, if_false}
 use Rattle.words.specs.Tables.{same_words}
 use Rattle.words.proofs.Tables.{Agree, agree_goes_on, agree_fails}
-use Rattle.texts.specs.Text.{before, longer, lines, fields, largest, none, digit, digits, number_of, stored, tab, newline}
+use Rattle.texts.specs.Text.{before, longer, lines, fields, digits, number_of, stored, tab, newline}
 use Rattle.texts.specs.Meanings.{Until, fields_from}
 
 -- ---- what stands before a byte

@@ -1,16 +1,17 @@
 -- A line as a record, and all lines of a text.
 use mathlib.Core.Path.{◌≡◌, refl, sym, ◌∙◌, ap, subst}
-use mathlib.Core.Bool.{Bool, true, false, ◌&&◌, not}
+use mathlib.Core.Bool.{Bool, true, false, not}
 use mathlib.Core.List.{List, [], ◌∷◌, ◌++◌}
 use Prim.Native.Nat.{ℕ, zero, suc, ◌+◌, ◌-◌, ◌<◌, ◌≤◌}
 use native.Mathlib.Omega.{arith}
-use borrow.Author.Tests.{eq-eqb, ne_eqb, le-leb, lt-leb, eqb-true, eqb-false, not-true, not-false}
+use borrow.Author.Tests.{eq-eqb, ne_eqb, le-leb, lt-leb, not-true, not-false}
 use lib.ListN.{length, get_or, take, drop, set, length-append}
-use Rattle.laws.specs.Tests.{if◌then◌else◌, ◌==◌, ◌≤?◌, one}
+use Rattle.std.specs.Prelude.{if◌then◌else◌, ◌==◌}
+use Rattle.laws.specs.Tests.{◌≤?◌, one}
 use Rattle.laws.specs.Lists.{every, over}
 use Rattle.laws.proofs.Tests.{by_test, if_true, if_false}
 use Rattle.texts.specs.declared.Reading.{Reading}
-use Rattle.texts.specs.Text.{before, lines, fields, number_of, stored, tab, newline}
+use Rattle.texts.specs.Text.{before, lines, fields, stored, tab, newline}
 use Rattle.texts.specs.Reading.{Held, is_number, numbers_of, sort_of, sort_in, first_of, rest_of, shaped, broken, counted, placed, placed_read, line_read, line_numbers, line_starts, more, begun, nothing, reading_of}
 use Rattle.texts.specs.Meanings.{Until, Taking, fields_from, Fits, Placed, Line, Text}
 use Rattle.texts.proofs.Bytes.{before-take, until_part, fields_first, lines_go_on, stored-append, stored-length}

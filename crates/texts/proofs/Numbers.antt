@@ -1,15 +1,15 @@
 -- The numbers of a line, field by field, stored in a table.
-use mathlib.Core.Path.{◌≡◌, refl, sym, ◌∙◌, ap, subst}
-use mathlib.Core.Bool.{Bool, true, false, ◌&&◌}
-use mathlib.Core.List.{List, [], ◌∷◌, ◌++◌}
-use Prim.Native.Nat.{ℕ, zero, suc, ◌+◌, ◌-◌, ◌<◌, ◌≤◌}
+use mathlib.Core.Path.{◌≡◌, refl, sym, ◌∙◌, ap}
+use mathlib.Core.Bool.{true, false}
+use mathlib.Core.List.{List, [], ◌∷◌}
+use Prim.Native.Nat.{ℕ, ◌+◌, ◌-◌, ◌<◌, ◌≤◌}
 use native.Mathlib.Omega.{arith}
-use borrow.Author.Tests.{eq-eqb, ne_eqb, le-leb, lt-leb, eqb-true, eqb-false}
+use borrow.Author.Tests.{ne_eqb, le-leb, lt-leb, eqb-true}
 use lib.ListN.{length, get_or, take, drop, set, length-set}
-use Rattle.laws.specs.Tests.{if◌then◌else◌, ◌==◌, ◌≤?◌}
+use Rattle.std.specs.Prelude.{if◌then◌else◌, ◌==◌}
 use Rattle.laws.specs.Lists.{every}
 use Rattle.laws.proofs.Tests.{by_test, if_true, if_false}
-use Rattle.texts.specs.Text.{before, fields, number_of, stored, tab, largest}
+use Rattle.texts.specs.Text.{before, number_of, stored, tab}
 use Rattle.texts.specs.Reading.{is_number, numbers_of}
 use Rattle.texts.specs.Meanings.{Until, FieldRead, Taking, fields_from}
 use Rattle.texts.proofs.Bytes.{until_part, fields_go_on, fields_end}

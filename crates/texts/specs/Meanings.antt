@@ -1,10 +1,10 @@
 -- What the functions that read a text promise, and what they need.
-use Rattle.std.specs.Prelude.{◌≡◌, Bool, true, false, List, [], ◌∷◌, ◌++◌, ℕ, ◌+◌, ◌-◌, ◌<◌, ◌≤◌, length, get_or, drop}
-use Rattle.laws.specs.Tests.{if◌then◌else◌, ◌≤?◌}
-use Rattle.laws.specs.Lists.{every, over}
+use Rattle.std.specs.Prelude.{◌≡◌, Bool, List, [], ◌∷◌, ℕ, ◌+◌, ◌<◌, ◌≤◌, length, get_or, drop, if◌then◌else◌}
+use Rattle.laws.specs.Tests.{◌≤?◌}
+use Rattle.laws.specs.Lists.{every}
 use Rattle.texts.specs.declared.Reading.{Reading}
-use Rattle.texts.specs.Text.{before, fields, lines, number_of, stored, tab, newline}
-use Rattle.texts.specs.Reading.{Held, is_number, numbers_of, placed_read, line_read, line_numbers, line_starts, reading_of}
+use Rattle.texts.specs.Text.{before, fields, lines, number_of, stored, tab}
+use Rattle.texts.specs.Reading.{is_number, numbers_of, placed_read, line_read, line_numbers, line_starts, reading_of}
 
 -- the place r is where the first byte `stop` stands from at on, or the end
 pub record Until (s : List ℕ) (at stop r : ℕ) : Type 0 where

@@ -1,8 +1,8 @@
 -- Which texts are netlists, and what is read of a text. A text is its lines; a line is a record: a word and numbers behind it, with one tab
 -- before each. Records of cells come first, then pins, nets and split levels. What is read is a function of the bytes, so a text that is
 -- accepted has one reading.
-use Rattle.std.specs.Prelude.{Bool, true, false, ◌&&◌, ◌||◌, List, [], ◌∷◌, ◌++◌, ℕ, zero, suc, ◌+◌, length, get_or}
-use Rattle.laws.specs.Tests.{if◌then◌else◌, ◌==◌, ◌<?◌, ◌≤?◌, or_else, refuse, one}
+use Rattle.std.specs.Prelude.{Bool, ◌&&◌, List, [], ◌∷◌, ◌++◌, ℕ, ◌+◌, length, get_or, if◌then◌else◌, ◌==◌}
+use Rattle.laws.specs.Tests.{◌≤?◌, one}
 use Rattle.laws.specs.Lists.{every, over}
 use Rattle.words.specs.Tables.{same_words}
 use Rattle.texts.specs.declared.Reading.{Reading}

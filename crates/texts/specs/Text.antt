@@ -1,6 +1,6 @@
 -- Text as bytes: lines, fields, and decimal numbers.
-use Rattle.std.specs.Prelude.{Bool, true, false, ◌&&◌, List, [], ◌∷◌, ◌++◌, ℕ, zero, suc, ◌+◌, ◌-◌, ◌*◌, length, drop, set}
-use Rattle.laws.specs.Tests.{if◌then◌else◌, ◌==◌, ◌<?◌, ◌≤?◌}
+use Rattle.std.specs.Prelude.{Bool, ◌&&◌, List, [], ◌∷◌, ℕ, ◌+◌, ◌-◌, ◌*◌, set, if◌then◌else◌, ◌==◌}
+use Rattle.laws.specs.Tests.{◌≤?◌}
 
 abbrev pub tab : ℕ
 tab = 9

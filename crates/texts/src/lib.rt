@@ -1,8 +1,8 @@
 // Reads the netlist text. specs/Reading.antt says which texts are accepted and what is read of them.
 #![tactic(auto)]
 
-ghost use Rattle.std.specs.Prelude.{◌≡◌, ◌+◌, ◌<◌, ◌≤◌, length, drop, set, get_or};
-ghost use Rattle.laws.specs.Tests.{one, if◌then◌else◌, ◌==◌};
+ghost use Rattle.std.specs.Prelude.{◌≡◌, ◌+◌, ◌<◌, ◌≤◌, length, drop, set, get_or, if◌then◌else◌, ◌==◌};
+ghost use Rattle.laws.specs.Tests.{one};
 ghost use Rattle.words.specs.Tables.{same_words};
 ghost use Rattle.texts.specs.Text.{before, number_of, digits, stored};
 ghost use Rattle.texts.specs.Reading.{sort_of, shaped, counted, broken, begun};

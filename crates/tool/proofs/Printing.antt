@@ -6,7 +6,6 @@ use native.Mathlib.Omega.{arith}
 use borrow.Author.Tests.{eq-eqb, ne_eqb}
 use lib.ListN.{length, take}
 use lib.Seq.{length-take-le}
-use Rattle.laws.specs.Tests.{if◌then◌else◌, ◌==◌}
 use Rattle.laws.specs.Words.{part}
 use Rattle.rules.specs.declared.Tally.{Tally}
 use Rattle.texts.specs.declared.Reading.{Reading}

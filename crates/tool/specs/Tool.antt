@@ -1,9 +1,7 @@
 -- The answer text of a graph, and of a text that was read no further.
-use Rattle.std.specs.Prelude.{◌≡◌, List, [], ◌∷◌, ◌++◌, ℕ, ◌+◌, ◌*◌, length}
-use Rattle.laws.specs.Tests.{if◌then◌else◌, ◌==◌}
+use Rattle.std.specs.Prelude.{List, [], ◌∷◌, ◌++◌, ℕ, ◌+◌, ◌*◌, if◌then◌else◌, ◌==◌}
 use Rattle.laws.specs.Words.{part}
 use Rattle.rules.specs.declared.Tally.{Tally}
-use Rattle.texts.specs.declared.Reading.{Reading}
 use Rattle.answers.specs.Printing.{field_bytes, line_bytes, rows_bytes, numbered_bytes}
 use Rattle.answers.specs.Answer.{drivers_bytes, dff_word, ram_word}
 

@@ -6,7 +6,8 @@ use Prim.Native.Nat.{ℕ, zero, suc, ◌+◌, ◌*◌, ◌<◌, ◌≤◌}
 use native.Mathlib.Omega.{arith}
 use borrow.Author.Tests.{le-leb, lt-leb, leb-true}
 use lib.ListN.{length}
-use Rattle.laws.specs.Tests.{if◌then◌else◌, ◌≤?◌, or_else, refuse}
+use Rattle.std.specs.Prelude.{if◌then◌else◌}
+use Rattle.laws.specs.Tests.{◌≤?◌, or_else, refuse}
 use Rattle.laws.specs.Words.{AllBelow}
 use Rattle.laws.proofs.Tests.{and_l, and_r, or_zero, first_refused, last_refused}
 use Rattle.laws.proofs.Words.{below_tested}

@@ -1,6 +1,6 @@
 -- What a traversal asked alone answers and leaves, and the parts of its number as the code tests them.
-use Rattle.std.specs.Prelude.{◌≡◌, Bool, true, ◌&&◌, List, ℕ, ◌+◌, length}
-use Rattle.laws.specs.Tests.{if◌then◌else◌, ◌<?◌, ◌≤?◌, or_else, refuse}
+use Rattle.std.specs.Prelude.{◌≡◌, Bool, true, ◌&&◌, List, ℕ, ◌+◌, length, if◌then◌else◌}
+use Rattle.laws.specs.Tests.{◌<?◌, ◌≤?◌, or_else, refuse}
 use Rattle.laws.specs.Lists.{keep, upto}
 use Rattle.laws.specs.Words.{zeros}
 use Rattle.rules.specs.declared.Listed.{Listed}

@@ -7,7 +7,8 @@ use mathlib.Core.Option.{some}
 use Prim.Native.Nat.{ℕ, ◌+◌, ◌-◌, ◌*◌, ◌<◌, ◌≤◌}
 use native.Mathlib.Omega.{arith}
 use lib.ListN.{length, get_or}
-use Rattle.laws.specs.Tests.{if◌then◌else◌, ◌<?◌, one}
+use Rattle.std.specs.Prelude.{if◌then◌else◌}
+use Rattle.laws.specs.Tests.{◌<?◌, one}
 use Rattle.laws.specs.Lists.{count, member, over, is_nil}
 use Rattle.laws.specs.Sets.{remove}
 use Rattle.laws.specs.Words.{part}
@@ -17,7 +18,7 @@ use Rattle.laws.proofs.Indices.{at_in}
 use Rattle.laws.proofs.Words.{part_at, part_in}
 use Rattle.rules.specs.declared.GraphCounts.{GraphCounts}
 use Rattle.rules.specs.Tables.{graph_in, end_marker}
-use Rattle.rules.specs.Stages.{Stage, split}
+use Rattle.rules.specs.Stages.{Stage}
 use Rattle.rules.specs.Answers.{endpoints}
 use Rattle.cuts.proofs.Rooms.{handed_fits}
 use Rattle.cuts.proofs.Next.{taken_le}

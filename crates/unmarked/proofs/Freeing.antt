@@ -1,6 +1,6 @@
 -- The test for markers, in the code's shape.
 use mathlib.Core.Path.{◌≡◌, refl, sym, ◌∙◌, ap, ap₂}
-use mathlib.Core.Bool.{Bool, true, false, not, ◌&&◌, ◌||◌}
+use mathlib.Core.Bool.{Bool, true, false, ◌&&◌, ◌||◌}
 use mathlib.Core.List.{List, [], ◌∷◌}
 use mathlib.Core.Option.{Option, none, some}
 use Prim.Native.Nat.{ℕ, zero, suc, ◌+◌, ◌-◌, ◌*◌, ◌<◌, ◌≤◌}
@@ -9,14 +9,14 @@ use native.Mathlib.Omega.{arith}
 use lib.ListN.{length, get_or, take, drop}
 use lib.Seq.{drop-cons, drop-length}
 use borrow.Author.Tests.{eq-eqb, ne_eqb, eqb-true, eqb-false}
-use Rattle.laws.specs.Tests.{◌==◌}
-use Rattle.laws.specs.Lists.{keep, every, upto}
+use Rattle.std.specs.Prelude.{◌==◌}
+use Rattle.laws.specs.Lists.{keep, every}
 use Rattle.laws.specs.Words.{part}
 use Rattle.laws.proofs.Tests.{by_test}
 use Rattle.laws.proofs.Words.{part_length, part_at}
-use Rattle.laws.proofs.Scans.{Scanned, scan_begins, scan_goes_on, scan_fails, scan_ends}
-use Rattle.rules.specs.Netlist.{Netlist, Kind, name_of, pins_of, kind_of}
-use Rattle.rules.specs.Refusals.{must_be_logic, mark, is_none, logic_pins, mark_free}
+use Rattle.laws.proofs.Scans.{Scanned, scan_fails, scan_ends}
+use Rattle.rules.specs.Netlist.{Netlist, Kind, name_of, pins_of}
+use Rattle.rules.specs.Refusals.{must_be_logic, mark, is_none, mark_free}
 use Rattle.roles.specs.Reading.{tables, Fits, kind_at}
 use Rattle.roles.proofs.Fitting.{laid, entry_inside}
 use Rattle.markers.specs.Marks.{mark_word}

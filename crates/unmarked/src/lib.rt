@@ -1,8 +1,7 @@
 // Whether no marker reaches a pin that must have a logic bit (refusal 10), by the words that `markers` writes.
 #![tactic(auto)]
 
-ghost use Rattle.std.specs.Prelude.{◌≡◌, ◌||◌, ℕ, ◌+◌, ◌*◌, ◌<◌, ◌≤◌, length, get_or, take, drop};
-ghost use Rattle.laws.specs.Tests.{◌==◌};
+ghost use Rattle.std.specs.Prelude.{◌≡◌, ◌||◌, ℕ, ◌+◌, ◌*◌, ◌<◌, ◌≤◌, length, get_or, take, drop, ◌==◌};
 ghost use Rattle.laws.specs.Lists.{every};
 ghost use Rattle.rules.specs.Refusals.{must_be_logic, mark_free};
 ghost use Rattle.roles.specs.Reading.{tables, Fits, kind_at};

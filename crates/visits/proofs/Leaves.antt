@@ -6,7 +6,6 @@ use Prim.Native.Nat.{ℕ, ◌+◌, ◌*◌, ◌≤◌, ◌<◌}
 use native.Mathlib.Omega.{arith}
 use lib.ListN.{length, get_or, set, length-set}
 use lib.Seq.{get_or-set_same, get_or-set_other}
-use Rattle.laws.specs.Tests.{one}
 use Rattle.laws.specs.Lists.{count, first_or}
 use Rattle.laws.specs.Search.{leave}
 use Rattle.laws.proofs.Bags.{here, there, first_same}
@@ -17,7 +16,7 @@ use Rattle.rules.specs.declared.Tally.{Tally}
 use Rattle.rules.specs.declared.Rooms.{Rooms}
 use Rattle.rules.specs.Netlist.{Netlist, cell_of, start_of, kind_of, dff, named}
 use Rattle.rules.specs.Graph.{opposite_if, pin_of, Made, and_of}
-use Rattle.rules.specs.Build.{out_port, and_out, dff_out, ram_out, nothing, role, visits_of, Build, with_lit, leaving, act, events}
+use Rattle.rules.specs.Build.{out_port, and_out, dff_out, ram_out, role, visits_of, Build, with_lit, leaving, act, events}
 use Rattle.rules.specs.Refusals.{Accepted}
 use Rattle.rules.proofs.Tables.{cell_fits, of_name}
 use Rattle.rules.proofs.Roles.{visit_fits, dff_words, ram_words_lem}

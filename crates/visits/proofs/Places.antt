@@ -1,21 +1,22 @@
 -- Where records are numbered: the number of a cell in a list that grows by insertion, and where the lists of cells begin.
-use mathlib.Core.Path.{◌≡◌, refl, sym, ap, subst, ◌∙◌}
-use mathlib.Core.Bool.{Bool, true, false}
+use mathlib.Core.Path.{◌≡◌, refl, ap, subst, ◌∙◌}
+use mathlib.Core.Bool.{Bool, true}
 use mathlib.Core.List.{List, [], ◌∷◌, ◌++◌}
-use Prim.Native.Nat.{ℕ, zero, suc, ◌+◌, ◌-◌, ◌*◌, ◌≤◌, ◌<◌}
+use Prim.Native.Nat.{ℕ, zero, suc, ◌+◌, ◌-◌, ◌≤◌, ◌<◌}
 use native.Mathlib.Omega.{arith}
-use lib.ListN.{length, get_or, length-append, length-take, length-drop}
-use borrow.Author.Tests.{eq-eqb, ne_eqb, eqb-true, eqb-false, ltb-true, ltb-false, lt-ltb, le-ltb}
-use Rattle.laws.specs.Tests.{if◌then◌else◌, ◌==◌, ◌<?◌, one}
+use lib.ListN.{length, length-append, length-take}
+use borrow.Author.Tests.{eq-eqb, eqb-true, eqb-false, ltb-true, ltb-false}
+use Rattle.std.specs.Prelude.{if◌then◌else◌, ◌==◌}
+use Rattle.laws.specs.Tests.{◌<?◌}
 use Rattle.laws.specs.Lists.{count, member}
 use Rattle.laws.specs.Sets.{insert}
 use Rattle.laws.proofs.Tests.{by_test, one_ne, one_eq}
-use Rattle.laws.proofs.Bags.{member_true, member_false, is_member, no_member, count-append, none_in}
-use Rattle.laws.proofs.Sets.{count-insert_other, insert_old, insert_new}
+use Rattle.laws.proofs.Bags.{member_true, member_false, is_member, no_member, count-append}
+use Rattle.laws.proofs.Sets.{insert_old, insert_new}
 use Rattle.laws.proofs.Indices.{place}
-use Rattle.rules.specs.Netlist.{Netlist, size, cells, cell_of, pins_of, start_of, kind_of, dff, ram, #OUT, named, pin_named}
+use Rattle.rules.specs.Netlist.{Netlist, size, cells, cell_of, pins_of, start_of}
 use Rattle.rules.specs.Refusals.{tables_number}
-use Rattle.rules.proofs.Tables.{own_cell, cell_fits, starts_rise, last_start}
+use Rattle.rules.proofs.Tables.{own_cell, starts_rise, last_start}
 use Rattle.drafts.specs.Layout.{number_in}
 
 -- ---- numbers

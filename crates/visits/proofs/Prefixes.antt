@@ -1,18 +1,17 @@
 -- The events one after the other: what is built before each, and what has been entered and left by then.
 use mathlib.Core.Path.{◌≡◌, refl, sym, ap, subst, ◌∙◌}
 use mathlib.Core.List.{List, [], ◌∷◌}
-use Prim.Native.Nat.{ℕ, zero, suc, ◌+◌, ◌*◌, ◌≤◌, ◌<◌}
+use Prim.Native.Nat.{ℕ, zero, suc, ◌+◌, ◌≤◌, ◌<◌}
 use native.Mathlib.Omega.{arith}
 use native.Mathlib.Numerals.{add-one}
 use lib.ListN.{length, get_or, take}
 use Rattle.laws.specs.Lists.{count}
 use Rattle.laws.specs.Search.{Event, enter, leave}
 use Rattle.laws.proofs.Folds.{over-take}
-use Rattle.laws.proofs.Events.{ins, outs, Proper, in_after, out_after}
+use Rattle.laws.proofs.Events.{ins, Proper, in_after, out_after}
 use Rattle.rules.specs.Netlist.{Netlist, size}
-use Rattle.rules.specs.Cells.{Logic}
 use Rattle.rules.specs.Graph.{pin_of}
-use Rattle.rules.specs.Build.{Build, Role, out_port, dff_out, role, visits_of, next, events, act, start2, step1}
+use Rattle.rules.specs.Build.{Role, out_port, dff_out, role, visits_of, next, events, act, start2, step1}
 use Rattle.rules.specs.Refusals.{Accepted}
 use Rattle.rules.proofs.Tables.{clash}
 use Rattle.builds.proofs.Logics.{out_logic, visited_logic}

@@ -1,31 +1,28 @@
 -- All events one after the other, in the code's shape.
 use mathlib.Core.Path.{◌≡◌, refl, sym, ap, subst, ◌∙◌}
-use mathlib.Core.Bool.{Bool, true, false}
+use mathlib.Core.Bool.{true, false}
 use mathlib.Core.List.{List, [], ◌∷◌}
 use Prim.Native.Nat.{ℕ, zero, suc, ◌+◌, ◌*◌, ◌/◌, ◌%◌, ◌≤◌, ◌<◌}
 use native.Mathlib.Omega.{arith}
 use lib.ListN.{length, get_or, take, drop, take-append-drop}
 use lib.Seq.{take_all}
 use borrow.Author.Tests.{eq-eqb, ne_eqb}
-use Rattle.laws.specs.Tests.{if◌then◌else◌, ◌==◌, one}
 use Rattle.laws.specs.Lists.{over}
 use Rattle.laws.specs.Search.{Event, enter, leave}
 use Rattle.laws.proofs.Tests.{true≢false, one_eq}
 use Rattle.laws.proofs.Folds.{over-append}
 use Rattle.laws.proofs.Events.{ins, outs, proper_within}
-use Rattle.laws.proofs.Words.{filled-length}
 use Rattle.rules.specs.declared.Tally.{Tally}
 use Rattle.rules.specs.declared.Rooms.{Rooms}
 use Rattle.rules.specs.Netlist.{Netlist, size}
 use Rattle.rules.specs.Build.{Build, events, next, act, start2, step1, step2}
 use Rattle.rules.specs.Refusals.{Accepted}
 use Rattle.rules.proofs.Tables.{clash}
-use Rattle.roles.specs.Reading.{tables, Fits}
+use Rattle.roles.specs.Reading.{tables}
 use Rattle.orders.specs.State.{event_of}
 use Rattle.builds.proofs.Sizes.{Longer, acts_longer}
 use Rattle.builds.proofs.Steps.{visited, inside}
 use Rattle.drafts.specs.declared.Counted.{Counted}
-use Rattle.drafts.specs.Layout.{index_at}
 use Rattle.visits.specs.Drafting.{Drafting, Listed, Over, pins_over, outputs_over, dffs_over, rams_over, Moved, moved, stuck, Before, ready, Visiting, visiting, event_at, state_at}
 
 -- ---- the pin of an event

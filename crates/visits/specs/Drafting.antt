@@ -1,5 +1,5 @@
 -- Step 2 in words: what the driver table, the outputs and the work words hold of what the rules have built so far.
-use Rattle.std.specs.Prelude.{◌≡◌, Bool, true, false, List, ℕ, ◌+◌, ◌*◌, ◌<◌, ◌≤◌, length, get_or, take}
+use Rattle.std.specs.Prelude.{◌≡◌, true, false, List, ℕ, ◌+◌, ◌*◌, ◌<◌, ◌≤◌, length, get_or, take}
 use Rattle.laws.specs.Tests.{one}
 use Rattle.laws.specs.Lists.{member, over}
 use Rattle.laws.specs.Search.{Event, enter}

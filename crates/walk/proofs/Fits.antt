@@ -7,7 +7,8 @@ use native.Mathlib.Numerals.{add-one}
 use native.Mathlib.Omega.{arith}
 use borrow.Author.Tests.{eq-eqb, ne_eqb, le-leb, lt-leb, leb-true, leb-false}
 use lib.ListN.{get_or}
-use Rattle.laws.specs.Tests.{◌==◌, ◌<?◌, ◌≤?◌}
+use Rattle.std.specs.Prelude.{◌==◌}
+use Rattle.laws.specs.Tests.{◌<?◌, ◌≤?◌}
 use Rattle.laws.specs.Lists.{every, upto}
 use Rattle.laws.proofs.Tests.{by_test, and-false}
 use Rattle.laws.proofs.Ranges.{upto_fails, upto-more}

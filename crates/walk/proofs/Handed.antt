@@ -8,7 +8,8 @@ use native.Mathlib.Omega.{arith}
 use borrow.Author.Tests.{eqb-true, eqb-false, eq-eqb, ne_eqb, lt-ltb, le-ltb, not-true}
 use lib.ListN.{length, get_or, take, set, length-set}
 use lib.Seq.{take-suc, take_all, get_or-set_other}
-use Rattle.laws.specs.Tests.{◌==◌, ◌<?◌, one}
+use Rattle.std.specs.Prelude.{◌==◌}
+use Rattle.laws.specs.Tests.{◌<?◌, one}
 use Rattle.laws.specs.Lists.{count, member}
 use Rattle.laws.specs.Words.{AllBelow}
 use Rattle.laws.proofs.Tests.{by_test, bits_same, both_true, and_l, and_r, and-false, one_true, one_eq, one_ne, one_le}

@@ -5,7 +5,8 @@ use mathlib.Core.List.{List}
 use Prim.Native.Nat.{ℕ, ◌+◌, ◌*◌, ◌<◌, ◌≤◌}
 use borrow.Author.Tests.{le-leb, lt-leb, eq-eqb, ne_eqb, eqb-true, leb-true}
 use lib.ListN.{length}
-use Rattle.laws.specs.Tests.{◌==◌, ◌≤?◌, or_else, refuse}
+use Rattle.std.specs.Prelude.{◌==◌}
+use Rattle.laws.specs.Tests.{◌≤?◌, or_else, refuse}
 use Rattle.laws.proofs.Tests.{and_l, and_r, not_refused, last_refused}
 use Rattle.rules.specs.Refusals.{drivers_fit}
 use Rattle.rules.specs.Answers.{drivers_number}

@@ -7,7 +7,8 @@ use native.Mathlib.Omega.{arith}
 use borrow.Author.Tests.{ltb-true, ltb-false, eqb-true, eqb-false, eq-eqb, ne_eqb}
 use lib.ListN.{length, get_or, take, drop, set, replicate, length-append, length-drop, length-set, length-replicate, get_or-replicate, take-append-drop, get_or-append}
 use lib.Seq.{length-take-le, get_or-take, get_or-drop, get_or-append-add, get_or-set_same, get_or-set_other, ext_get_or}
-use Rattle.laws.specs.Tests.{◌==◌, ◌<?◌}
+use Rattle.std.specs.Prelude.{◌==◌}
+use Rattle.laws.specs.Tests.{◌<?◌}
 use Rattle.laws.specs.Words.{part, zeros, filled}
 use Rattle.laws.proofs.Tests.{by_test, true≢false, and_l, and_r}
 use Rattle.laws.proofs.Indices.{every_at, every_entry, every_fails}

@@ -1,6 +1,5 @@
 -- What lent tables of words hold after words were written to them, and tests of whole tables.
-use Rattle.std.specs.Prelude.{Bool, true, false, ◌&&◌, List, [], ◌∷◌, ◌++◌, ℕ, ◌+◌, length, take, drop}
-use Rattle.laws.specs.Tests.{◌==◌}
+use Rattle.std.specs.Prelude.{Bool, true, false, ◌&&◌, List, [], ◌∷◌, ◌++◌, ℕ, ◌+◌, length, take, drop, ◌==◌}
 use Rattle.laws.specs.Lists.{every}
 
 -- the table t with the words ws from a on; the rest is kept

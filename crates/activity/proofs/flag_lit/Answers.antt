@@ -1,6 +1,5 @@
 use native.Mathlib.Omega.{arith}
-use Rattle.activity.proofs.Tracing.{flag_place, flag_few, flag_told}
-use borrow.Author.Rules.{rules}
+use Rattle.activity.proofs.Tracing.{flag_few, flag_told}
 use Rattle.activity.proofs.flag_lit.Goals as goal
 
 pub overflow_mul-word : goal.overflow_mul-word

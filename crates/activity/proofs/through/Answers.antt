@@ -1,5 +1,4 @@
 use Rattle.activity.proofs.Tracing.{enable_place, enable_told}
-use borrow.Author.Rules.{rules}
 use Rattle.activity.proofs.through.Goals as goal
 
 pub returns : goal.returns

@@ -1,11 +1,8 @@
 use Rattle.roles.specs.Reading.{tables}
 use Prim.Native.Nat.{◌-◌}
 use lib.ListN.{length}
-use mathlib.Core.Path.{◌≡◌, refl}
-use native.Mathlib.Omega.{arith}
-use borrow.Author.Rules.{rules}
-use borrow.Author.Tests.{not-true, not-false}
-use Rattle.activity.proofs.Tracing.{Passing, passing_begins, passing_next, passing_ends, passing_goes_on, passing_fails}
+use mathlib.Core.Path.{◌≡◌}
+use Rattle.activity.proofs.Tracing.{Passing}
 use Rattle.activity.proofs.through_all.Given as goal
 
 abbrev pub invariant-loop-i : goal.invariant-loop-i

@@ -1,6 +1,4 @@
 use Rattle.aig.proofs.Asking.{asked_for, asked_away, asked_ready, asked_made, asked_full}
-use mathlib.Core.Path.{◌∙◌}
-use borrow.Author.Rules.{rules}
 use Rattle.aig.proofs.build_asked.Goals as goal
 
 pub prepare-number-requires : goal.prepare-number-requires

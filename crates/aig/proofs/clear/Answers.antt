@@ -1,5 +1,4 @@
 use Rattle.aig.proofs.Filling.{all_clear}
-use borrow.Author.Rules.{rules}
 use Rattle.aig.proofs.clear.Goals as goal
 
 pub returns : goal.returns

@@ -1,7 +1,6 @@
 use Rattle.aig.proofs.Filling.{not_drawn, fill_full, finish_needs, fill_done}
 use Rattle.roles.specs.Reading.{tables}
 use borrow.Author.Tests.{not-true, not-false}
-use borrow.Author.Rules.{rules}
 use Rattle.aig.proofs.fill_tables.Goals as goal
 
 pub make_graph-step-requires : goal.make_graph-step-requires

@@ -1,8 +1,6 @@
 use Rattle.aig.proofs.Entry.{entry_early, entry_waits, entry_late}
 use Rattle.aig.specs.Building.{lent}
 use lib.ListN.{length}
-use mathlib.Core.Path.{◌∙◌}
-use borrow.Author.Rules.{rules}
 use Rattle.aig.proofs.from_netlistdb.Goals as goal
 
 pub returns-then-number-ne0 : goal.returns-then-number-ne0

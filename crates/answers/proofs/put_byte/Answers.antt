@@ -1,5 +1,4 @@
 use Rattle.answers.proofs.Placing.{printed_byte, printed_past}
-use borrow.Author.Rules.{rules}
 use Rattle.answers.proofs.put_byte.Goals as goal
 
 pub returns-then-at-out : goal.returns-then-at-out

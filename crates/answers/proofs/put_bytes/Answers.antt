@@ -1,8 +1,4 @@
-use Rattle.answers.proofs.Placing.{Bytes, bytes_begin, bytes_go_on, bytes_end}
-use lib.ListN.{length}
-use Prim.Native.Nat.{◌-◌}
-use borrow.Author.Rules.{rules}
-use native.Mathlib.Omega.{arith}
+use Rattle.answers.proofs.Placing.{bytes_begin, bytes_go_on, bytes_end}
 use Rattle.answers.proofs.put_bytes.Goals as goal
 
 pub loop-i-init : goal.loop-i-init

@@ -1,8 +1,6 @@
-use Rattle.answers.proofs.Placing.{Bytes, bytes_begin, bytes_go_on, bytes_end}
+use Rattle.answers.proofs.Placing.{Bytes}
 use lib.ListN.{length}
 use Prim.Native.Nat.{◌-◌}
-use borrow.Author.Rules.{rules}
-use native.Mathlib.Omega.{arith}
 use Rattle.answers.proofs.put_bytes.Given as goal
 
 abbrev pub invariant-loop-i : goal.invariant-loop-i

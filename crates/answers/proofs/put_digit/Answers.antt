@@ -1,5 +1,4 @@
 use Rattle.answers.proofs.Placing.{digit-none, digit_last, digit_counts, digit_leads}
-use borrow.Author.Rules.{rules}
 use Rattle.answers.proofs.put_digit.Goals as goal
 
 pub returns-then-p-eq0 : goal.returns-then-p-eq0

@@ -1,5 +1,4 @@
 use Rattle.answers.proofs.Lines.{printed_driver_at}
-use borrow.Author.Rules.{rules}
 use Rattle.answers.proofs.put_driver_at.Goals as goal
 
 pub returns : goal.returns

@@ -1,7 +1,4 @@
-use Rattle.answers.proofs.Lines.{Drivers, drivers_begin, drivers_go_on, drivers_end}
-use Prim.Native.Nat.{◌-◌}
-use borrow.Author.Rules.{rules}
-use native.Mathlib.Omega.{arith}
+use Rattle.answers.proofs.Lines.{drivers_begin, drivers_go_on, drivers_end}
 use Rattle.answers.proofs.put_drivers.Goals as goal
 
 pub loop-i-init : goal.loop-i-init

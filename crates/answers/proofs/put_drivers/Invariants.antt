@@ -1,7 +1,5 @@
-use Rattle.answers.proofs.Lines.{Drivers, drivers_begin, drivers_go_on, drivers_end}
+use Rattle.answers.proofs.Lines.{Drivers}
 use Prim.Native.Nat.{◌-◌}
-use borrow.Author.Rules.{rules}
-use native.Mathlib.Omega.{arith}
 use Rattle.answers.proofs.put_drivers.Given as goal
 
 abbrev pub invariant-loop-i : goal.invariant-loop-i

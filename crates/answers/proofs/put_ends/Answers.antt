@@ -1,5 +1,4 @@
 use Rattle.answers.proofs.Lines.{printed_open, printed_closed}
-use borrow.Author.Rules.{rules}
 use Rattle.answers.proofs.put_ends.Goals as goal
 
 pub returns-then-upper-eq4294967295 : goal.returns-then-upper-eq4294967295

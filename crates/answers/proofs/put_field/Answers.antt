@@ -1,5 +1,4 @@
 use Rattle.answers.proofs.Placing.{printed_field}
-use borrow.Author.Rules.{rules}
 use Rattle.answers.proofs.put_field.Goals as goal
 
 pub returns : goal.returns

@@ -1,8 +1,4 @@
-use Rattle.answers.proofs.Placing.{Fields, fields_begin, fields_go_on, fields_end}
-use lib.ListN.{length}
-use Prim.Native.Nat.{◌-◌}
-use borrow.Author.Rules.{rules}
-use native.Mathlib.Omega.{arith}
+use Rattle.answers.proofs.Placing.{fields_begin, fields_go_on, fields_end}
 use Rattle.answers.proofs.put_fields.Goals as goal
 
 pub loop-i-init : goal.loop-i-init

@@ -1,8 +1,6 @@
-use Rattle.answers.proofs.Placing.{Fields, fields_begin, fields_go_on, fields_end}
+use Rattle.answers.proofs.Placing.{Fields}
 use lib.ListN.{length}
 use Prim.Native.Nat.{◌-◌}
-use borrow.Author.Rules.{rules}
-use native.Mathlib.Omega.{arith}
 use Rattle.answers.proofs.put_fields.Given as goal
 
 abbrev pub invariant-loop-i : goal.invariant-loop-i

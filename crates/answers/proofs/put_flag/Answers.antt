@@ -1,5 +1,4 @@
 use Rattle.answers.proofs.Lines.{printed_rising, printed_falling}
-use borrow.Author.Rules.{rules}
 use Rattle.answers.proofs.put_flag.Goals as goal
 
 pub returns-then-b-eq0 : goal.returns-then-b-eq0

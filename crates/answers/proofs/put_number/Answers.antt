@@ -1,6 +1,4 @@
-use Rattle.answers.proofs.Placing.{Digits, digits_begin, digits_go_on, digits_end}
-use borrow.Author.Rules.{rules}
-use native.Mathlib.Omega.{arith}
+use Rattle.answers.proofs.Placing.{digits_begin, digits_go_on, digits_end}
 use Rattle.answers.proofs.put_number.Goals as goal
 
 pub loop-k-init : goal.loop-k-init

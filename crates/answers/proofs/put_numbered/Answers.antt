@@ -1,7 +1,4 @@
-use Rattle.answers.proofs.Lines.{Numbered, numbered_begin, numbered_go_on, numbered_end}
-use Prim.Native.Nat.{◌-◌}
-use borrow.Author.Rules.{rules}
-use native.Mathlib.Omega.{arith}
+use Rattle.answers.proofs.Lines.{numbered_begin, numbered_go_on, numbered_end}
 use Rattle.answers.proofs.put_numbered.Goals as goal
 
 pub loop-i-init : goal.loop-i-init

@@ -1,7 +1,5 @@
-use Rattle.answers.proofs.Lines.{Numbered, numbered_begin, numbered_go_on, numbered_end}
+use Rattle.answers.proofs.Lines.{Numbered}
 use Prim.Native.Nat.{◌-◌}
-use borrow.Author.Rules.{rules}
-use native.Mathlib.Omega.{arith}
 use Rattle.answers.proofs.put_numbered.Given as goal
 
 abbrev pub invariant-loop-i : goal.invariant-loop-i

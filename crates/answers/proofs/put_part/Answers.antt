@@ -1,6 +1,4 @@
 use Rattle.answers.proofs.Placing.{printed_part}
-use native.Mathlib.Omega.{arith}
-use borrow.Author.Rules.{rules}
 use Rattle.answers.proofs.put_part.Goals as goal
 
 pub returns : goal.returns

@@ -1,7 +1,5 @@
-use Rattle.answers.proofs.Lines.{Rows, rows_begin, rows_go_on, rows_end}
-use mathlib.Core.Path.{◌≡◌}
+use Rattle.answers.proofs.Lines.{rows_begin, rows_go_on, rows_end}
 use borrow.Author.Rules.{rules}
-use native.Mathlib.Omega.{arith}
 use Rattle.answers.proofs.put_rows.Goals as goal
 
 pub loop-left-init : goal.loop-left-init

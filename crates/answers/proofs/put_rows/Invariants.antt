@@ -1,7 +1,5 @@
-use Rattle.answers.proofs.Lines.{Rows, rows_begin, rows_go_on, rows_end}
+use Rattle.answers.proofs.Lines.{Rows}
 use mathlib.Core.Path.{◌≡◌}
-use borrow.Author.Rules.{rules}
-use native.Mathlib.Omega.{arith}
 use Rattle.answers.proofs.put_rows.Given as goal
 
 abbrev pub invariant-loop-left : goal.invariant-loop-left

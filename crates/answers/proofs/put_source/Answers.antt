@@ -1,5 +1,4 @@
 use Rattle.answers.proofs.Lines.{source_const, source_and, source_port, source_flag, source_dff, source_ram}
-use borrow.Author.Rules.{rules}
 use Rattle.answers.proofs.put_source.Goals as goal
 
 pub returns-then-tag-eq0 : goal.returns-then-tag-eq0

@@ -1,5 +1,4 @@
 use Rattle.answers.proofs.Lines.{printed_stage}
-use borrow.Author.Rules.{rules}
 use Rattle.answers.proofs.put_stage.Goals as goal
 
 pub returns : goal.returns

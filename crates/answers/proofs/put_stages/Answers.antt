@@ -1,7 +1,4 @@
-use Rattle.answers.proofs.Lines.{Stages, stages_begin, stages_go_on, stages_end}
-use Prim.Native.Nat.{◌-◌}
-use borrow.Author.Rules.{rules}
-use native.Mathlib.Omega.{arith}
+use Rattle.answers.proofs.Lines.{stages_begin, stages_go_on, stages_end}
 use Rattle.answers.proofs.put_stages.Goals as goal
 
 pub loop-i-init : goal.loop-i-init

@@ -1,7 +1,5 @@
-use Rattle.answers.proofs.Lines.{Stages, stages_begin, stages_go_on, stages_end}
+use Rattle.answers.proofs.Lines.{Stages}
 use Prim.Native.Nat.{◌-◌}
-use borrow.Author.Rules.{rules}
-use native.Mathlib.Omega.{arith}
 use Rattle.answers.proofs.put_stages.Given as goal
 
 abbrev pub invariant-loop-i : goal.invariant-loop-i

@@ -1,5 +1,4 @@
 use Rattle.answers.proofs.Lines.{word_past}
-use borrow.Author.Rules.{rules}
 use Rattle.answers.proofs.word_at.Goals as goal
 
 pub returns : goal.returns

@@ -1,10 +1,5 @@
 use Rattle.asked.proofs.Begins.{room_stops, room_two, begin_chosen, chosen_below, begin_before, before-below, begin_stops, begin_set, begin_done}
-use lib.ListN.{length, get_or}
-use Prim.Native.Nat.{ℕ, ◌+◌, ◌-◌, ◌*◌, ◌≤◌, ◌<◌}
-use mathlib.Core.Path.{◌≡◌}
 use borrow.Author.Tests.{not-true, not-false}
-use native.Mathlib.Omega.{arith}
-use borrow.Author.Rules.{rules}
 use Rattle.asked.proofs.begin.Goals as goal
 
 pub returns-then-not-all_below : goal.returns-then-not-all_below

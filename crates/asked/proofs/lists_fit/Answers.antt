@@ -1,10 +1,4 @@
 use Rattle.asked.proofs.Begins.{chosen_many, before_many, level_high, handed_many, lists_few}
-use lib.ListN.{length, get_or}
-use Prim.Native.Nat.{ℕ, ◌+◌, ◌-◌, ◌*◌, ◌≤◌, ◌<◌}
-use mathlib.Core.Path.{◌≡◌}
-use borrow.Author.Tests.{not-true, not-false}
-use borrow.Author.Rules.{rules}
-use native.Mathlib.Omega.{arith}
 use Rattle.asked.proofs.lists_fit.Goals as goal
 
 pub returns-then-chosen-gt16777215 : goal.returns-then-chosen-gt16777215

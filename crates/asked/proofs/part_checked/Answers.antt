@@ -1,10 +1,6 @@
 use Rattle.asked.proofs.Asked.{open_zero, part_room, part_15, part_idle, part_14, part_11, part_handed, part_taken, part_made}
-use lib.ListN.{length, get_or}
-use Prim.Native.Nat.{ℕ, ◌+◌, ◌-◌, ◌*◌, ◌≤◌, ◌<◌}
-use mathlib.Core.Path.{◌≡◌}
 use borrow.Author.Tests.{not-true, not-false}
 use native.Mathlib.Omega.{arith}
-use borrow.Author.Rules.{rules}
 use Rattle.asked.proofs.part_checked.Goals as goal
 
 pub begin-requires : goal.begin-requires

@@ -1,6 +1,5 @@
 use Rattle.checks.proofs.Entry.{answered_ten}
 use Rattle.netlist.proofs.Whole.{zeros_self}
-use borrow.Author.Rules.{rules}
 use Rattle.checks.proofs.check_all.Goals as goal
 
 pub netlist_to-number-requires : goal.netlist_to-number-requires

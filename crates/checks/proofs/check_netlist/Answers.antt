@@ -1,6 +1,5 @@
 use Rattle.checks.proofs.Entry.{answered_nine}
 use Rattle.netlist.proofs.Whole.{zeros_self}
-use borrow.Author.Rules.{rules}
 use Rattle.checks.proofs.check_netlist.Goals as goal
 
 pub netlist_to-number-requires : goal.netlist_to-number-requires

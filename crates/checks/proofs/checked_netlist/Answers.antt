@@ -1,5 +1,4 @@
 use Rattle.checks.proofs.Chain.{checked_fails, now_fits, now_fresh, checked_readied}
-use borrow.Author.Rules.{rules}
 use Rattle.checks.proofs.checked_netlist.Goals as goal
 
 pub returns-then-number-ne0 : goal.returns-then-number-ne0

@@ -1,5 +1,4 @@
 use Rattle.checks.proofs.Entry.{asked_fails, asked_goes_on, now_asked}
-use borrow.Author.Rules.{rules}
 use Rattle.checks.proofs.netlist_to.Goals as goal
 
 pub returns-then-sizes-ne0 : goal.returns-then-sizes-ne0

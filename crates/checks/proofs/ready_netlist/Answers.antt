@@ -1,6 +1,5 @@
 use borrow.Author.Tests.{not-true, not-false}
 use Rattle.checks.proofs.Chain.{ready_loops, ready_walked}
-use borrow.Author.Rules.{rules}
 use Rattle.checks.proofs.ready_netlist.Goals as goal
 
 pub returns-then-not-free : goal.returns-then-not-free

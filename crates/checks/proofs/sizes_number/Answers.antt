@@ -1,6 +1,5 @@
 use borrow.Author.Tests.{not-true, not-false}
 use Rattle.checks.proofs.Entry.{sizes_1, sizes_2, sizes_room, sizes_pass}
-use borrow.Author.Rules.{rules}
 use Rattle.checks.proofs.sizes_number.Goals as goal
 
 pub returns-then-not-within : goal.returns-then-not-within

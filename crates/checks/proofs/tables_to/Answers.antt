@@ -1,6 +1,5 @@
 use borrow.Author.Tests.{not-true, not-false}
 use Rattle.checks.proofs.Chain.{to_fails, to_nine, checked_fits, checked_laid, to_marked, to_ten}
-use borrow.Author.Rules.{rules}
 use Rattle.checks.proofs.tables_to.Goals as goal
 
 pub returns-then-number-ne0 : goal.returns-then-number-ne0

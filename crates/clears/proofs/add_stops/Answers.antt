@@ -1,10 +1,4 @@
-use Rattle.clears.proofs.Leaving.{StoppingTo, stop_begins, stop_room, stop_goes_on, stop_ends}
-use lib.ListN.{length, get_or}
-use Prim.Native.Nat.{ℕ, ◌+◌, ◌-◌, ◌*◌, ◌≤◌, ◌<◌}
-use mathlib.Core.Path.{◌≡◌}
-use borrow.Author.Tests.{not-true, not-false}
-use borrow.Author.Rules.{rules}
-use native.Mathlib.Omega.{arith}
+use Rattle.clears.proofs.Leaving.{stop_begins, stop_goes_on, stop_ends}
 use Rattle.clears.proofs.add_stops.Goals as goal
 
 pub loop-i-init : goal.loop-i-init

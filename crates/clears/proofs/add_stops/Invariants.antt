@@ -1,10 +1,5 @@
-use Rattle.clears.proofs.Leaving.{StoppingTo, stop_begins, stop_room, stop_goes_on, stop_ends}
-use lib.ListN.{length, get_or}
-use Prim.Native.Nat.{ℕ, ◌+◌, ◌-◌, ◌*◌, ◌≤◌, ◌<◌}
-use mathlib.Core.Path.{◌≡◌}
-use borrow.Author.Tests.{not-true, not-false}
-use borrow.Author.Rules.{rules}
-use native.Mathlib.Omega.{arith}
+use Rattle.clears.proofs.Leaving.{StoppingTo}
+use Prim.Native.Nat.{◌-◌}
 use Rattle.clears.proofs.add_stops.Given as goal
 
 abbrev pub invariant-loop-i : goal.invariant-loop-i

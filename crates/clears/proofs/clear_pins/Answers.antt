@@ -1,10 +1,4 @@
-use Rattle.clears.proofs.Clearing.{ClearingTo, clear_begins, clear_inside, clear_goes_on, clear_ends}
-use lib.ListN.{length, get_or}
-use Prim.Native.Nat.{ℕ, ◌+◌, ◌-◌, ◌*◌, ◌≤◌, ◌<◌}
-use mathlib.Core.Path.{◌≡◌}
-use borrow.Author.Tests.{not-true, not-false}
-use borrow.Author.Rules.{rules}
-use native.Mathlib.Omega.{arith}
+use Rattle.clears.proofs.Clearing.{clear_begins, clear_inside, clear_goes_on, clear_ends}
 use Rattle.clears.proofs.clear_pins.Goals as goal
 
 pub loop-i-init : goal.loop-i-init

@@ -1,10 +1,5 @@
-use Rattle.clears.proofs.Clearing.{ClearingTo, clear_begins, clear_inside, clear_goes_on, clear_ends}
-use lib.ListN.{length, get_or}
-use Prim.Native.Nat.{ℕ, ◌+◌, ◌-◌, ◌*◌, ◌≤◌, ◌<◌}
-use mathlib.Core.Path.{◌≡◌}
-use borrow.Author.Tests.{not-true, not-false}
-use borrow.Author.Rules.{rules}
-use native.Mathlib.Omega.{arith}
+use Rattle.clears.proofs.Clearing.{ClearingTo}
+use Prim.Native.Nat.{◌-◌}
 use Rattle.clears.proofs.clear_pins.Given as goal
 
 abbrev pub invariant-loop-i : goal.invariant-loop-i

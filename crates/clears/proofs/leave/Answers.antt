@@ -1,10 +1,4 @@
-use Rattle.clears.proofs.Leaving.{LeavingTo, leave_begins, leave_set, leave_inside, leave_goes_on, leave_ends}
-use lib.ListN.{length, get_or}
-use Prim.Native.Nat.{ℕ, ◌+◌, ◌-◌, ◌*◌, ◌≤◌, ◌<◌}
-use mathlib.Core.Path.{◌≡◌}
-use borrow.Author.Tests.{not-true, not-false}
-use borrow.Author.Rules.{rules}
-use native.Mathlib.Omega.{arith}
+use Rattle.clears.proofs.Leaving.{leave_begins, leave_set, leave_inside, leave_goes_on, leave_ends}
 use Rattle.clears.proofs.leave.Goals as goal
 
 pub loop-i-init : goal.loop-i-init

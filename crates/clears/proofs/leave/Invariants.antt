@@ -1,10 +1,5 @@
-use Rattle.clears.proofs.Leaving.{LeavingTo, leave_begins, leave_set, leave_inside, leave_goes_on, leave_ends}
-use lib.ListN.{length, get_or}
-use Prim.Native.Nat.{ℕ, ◌+◌, ◌-◌, ◌*◌, ◌≤◌, ◌<◌}
-use mathlib.Core.Path.{◌≡◌}
-use borrow.Author.Tests.{not-true, not-false}
-use borrow.Author.Rules.{rules}
-use native.Mathlib.Omega.{arith}
+use Rattle.clears.proofs.Leaving.{LeavingTo}
+use Prim.Native.Nat.{◌-◌}
 use Rattle.clears.proofs.leave.Given as goal
 
 abbrev pub invariant-loop-i : goal.invariant-loop-i

@@ -1,7 +1,5 @@
-use Rattle.clocks.proofs.Steps.{driver_inside, pin_constant, pin_driven, pin_other, inv_left, buf_left, gate_left, inv_inside, buf_inside, gate_inside, driver_port, driver_inv, driver_buf, driver_gate, driver_other, driver_far, gates_few, cell_falls, pin_falls, fewer_left}
+use Rattle.clocks.proofs.Steps.{driver_inside, pin_driven, pin_other, inv_left, buf_left, gate_left, inv_inside, buf_inside, gate_inside, driver_gate, gates_few, cell_falls, pin_falls, fewer_left}
 use borrow.Author.Rules.{rules}
-use native.Mathlib.Omega.{arith}
-use Prim.Native.Nat.{ℕ, ◌+◌, ◌-◌, ◌*◌, ◌<◌}
 use Rattle.clocks.proofs.+driver_walk_pin_walk.Goals as goal
 
 pub driver_walk-pin_walk-requires : goal.driver_walk-pin_walk-requires

@@ -1,5 +1,5 @@
 -- Each step of the walk has a gate less left: a driver's two steps lie between two pins'.
-use Rattle.std.proofs.Common.{ℕ, ◌+◌, ◌*◌}
+use Rattle.std.proofs.Common.{◌+◌, ◌*◌}
 use Rattle.clocks.proofs.+driver_walk_pin_walk.Given as goal
 
 abbrev pub decreases-driver_walk : goal.decreases-driver_walk

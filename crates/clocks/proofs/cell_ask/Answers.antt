@@ -1,5 +1,4 @@
 use Rattle.clocks.proofs.Steps.{asks_inv, asks_buf, asks_gate}
-use borrow.Author.Rules.{rules}
 use Rattle.clocks.proofs.cell_ask.Goals as goal
 
 pub returns-in-InvOut : goal.returns-in-InvOut

@@ -1,5 +1,4 @@
 use Rattle.clocks.proofs.Steps.{cells_left}
-use borrow.Author.Rules.{rules}
 use Rattle.clocks.proofs.driver_ask.Goals as goal
 
 pub returns-then-left-ne0 : goal.returns-then-left-ne0

@@ -1,5 +1,4 @@
 use Rattle.clocks.proofs.Steps.{gate_here, gate_elsewhere}
-use borrow.Author.Rules.{rules}
 use Rattle.clocks.proofs.passed.Goals as goal
 
 pub returns-then-want-walk : goal.returns-then-want-walk

@@ -1,5 +1,4 @@
 use Rattle.clocks.proofs.Steps.{asks_driver}
-use borrow.Author.Rules.{rules}
 use Rattle.clocks.proofs.pin_ask.Goals as goal
 
 pub returns-in-Wire : goal.returns-in-Wire

@@ -1,5 +1,4 @@
 use Rattle.drafts.proofs.Steps.{counted_same, counted-more}
-use borrow.Author.Rules.{rules}
 use Rattle.drafts.proofs.gate_counted.Goals as goal
 
 pub returns-then-pins-t : goal.returns-then-pins-t

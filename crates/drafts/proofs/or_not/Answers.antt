@@ -1,5 +1,4 @@
 use Rattle.drafts.proofs.Steps.{or_made}
-use borrow.Author.Rules.{rules}
 use Rattle.drafts.proofs.or_not.Goals as goal
 
 pub returns : goal.returns

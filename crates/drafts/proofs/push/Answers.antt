@@ -1,5 +1,4 @@
 use Rattle.drafts.proofs.Steps.{push_full, push_made}
-use borrow.Author.Rules.{rules}
 use Rattle.drafts.proofs.push.Goals as goal
 
 pub returns-then-drivers-row : goal.returns-then-drivers-row

@@ -1,6 +1,5 @@
 use borrow.Author.Tests.{not-true, not-false}
 use Rattle.drafts.proofs.Steps.{set-table, set_full, set_then}
-use borrow.Author.Rules.{rules}
 use Rattle.drafts.proofs.set_reset.Goals as goal
 
 pub returns-then-not-set : goal.returns-then-not-set

@@ -2,7 +2,6 @@ use Rattle.draws.proofs.Graphing.{is_empty, dffs_clear, rams_clear, cells_few, i
 use borrow.Author.Tests.{not-true, not-false}
 use native.Mathlib.Omega.{arith}
 use mathlib.Core.Path.{refl}
-use borrow.Author.Rules.{rules}
 use Rattle.draws.proofs.make_graph.Goals as goal
 
 pub make_pins-step-requires : goal.make_pins-step-requires

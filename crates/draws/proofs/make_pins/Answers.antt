@@ -2,7 +2,6 @@ use mathlib.Core.Path.{refl}
 use Rattle.draws.proofs.Pinning.{empty_fits, empty_small, empty_blank, pins_full, pins_begun, pins_done}
 use borrow.Author.Tests.{not-true, not-false}
 use native.Mathlib.Omega.{arith}
-use borrow.Author.Rules.{rules}
 use Rattle.draws.proofs.make_pins.Goals as goal
 
 pub overflow_add-at : goal.overflow_add-at

@@ -1,5 +1,4 @@
 use Rattle.drivers.proofs.Decode.{constant_at, constant_bad}
-use borrow.Author.Rules.{rules}
 use Rattle.drivers.proofs.constant_in.Goals as goal
 
 pub returns-then-a-eq0 : goal.returns-then-a-eq0

@@ -1,6 +1,5 @@
 use Rattle.drivers.proofs.Decode.{tagged, no_tag}
 use mathlib.Core.Path.{refl}
-use borrow.Author.Rules.{rules}
 use Rattle.drivers.proofs.decode_words.Goals as goal
 
 pub returns-in-0 : goal.returns-in-0

@@ -1,5 +1,4 @@
 use Rattle.rules.specs.Tables.{decode_at}
-use borrow.Author.Rules.{rules}
 use Rattle.drivers.proofs.driver_at.Goals as goal
 
 pub returns : goal.returns

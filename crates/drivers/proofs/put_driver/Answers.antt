@@ -2,7 +2,6 @@ use Prim.Native.Nat.{ℕ, ◌+◌, ◌*◌}
 use mathlib.Core.Path.{sym, ap, ◌∙◌}
 use lib.ListN.{set}
 use Rattle.drivers.specs.Written.{written}
-use borrow.Author.Rules.{rules}
 use Rattle.drivers.proofs.put_driver.Goals as goal
 
 pub returns-in-And : goal.returns-in-And

@@ -1,7 +1,6 @@
 use mathlib.Core.Path.{refl}
 use Rattle.ends.specs.Ended.{flopped, remembered}
 use Rattle.ends.proofs.Ending.{kind_dff, kind_dffsr, kind_ram, cell_passed}
-use borrow.Author.Rules.{rules}
 use Rattle.ends.proofs.cell_ends.Goals as goal
 
 pub flop-requires : goal.flop-requires

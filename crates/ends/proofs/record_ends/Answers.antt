@@ -1,10 +1,7 @@
-use Rattle.roles.specs.Reading.{tables}
-use Prim.Native.Nat.{◌-◌}
-use lib.ListN.{length}
 use native.Mathlib.Omega.{arith}
-use mathlib.Core.Path.{◌≡◌, refl}
+use mathlib.Core.Path.{refl}
 use borrow.Author.Tests.{not-true, not-false}
-use Rattle.ends.proofs.Ending.{Ending, ending_begins, ending_ends, ending_goes_on, ending_fails}
+use Rattle.ends.proofs.Ending.{ending_begins, ending_ends, ending_goes_on, ending_fails}
 use Rattle.ends.proofs.record_ends.Goals as goal
 
 pub loop-cell-init : goal.loop-cell-init

@@ -1,5 +1,4 @@
 use Rattle.entries.proofs.Making.{output_known, output_full, output_new}
-use borrow.Author.Rules.{rules}
 use Rattle.entries.proofs.add_output.Goals as goal
 
 pub returns-then-known-ne0 : goal.returns-then-known-ne0

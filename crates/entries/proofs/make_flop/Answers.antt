@@ -1,7 +1,6 @@
 use Rattle.entries.proofs.Making.{flop_unfit, flop_fits, flop_count}
 use borrow.Author.Tests.{not-true, not-false}
 use native.Mathlib.Omega.{arith}
-use borrow.Author.Rules.{rules}
 use Rattle.entries.proofs.make_flop.Goals as goal
 
 pub returns-then-not-step : goal.returns-then-not-step

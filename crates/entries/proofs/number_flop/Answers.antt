@@ -1,4 +1,3 @@
-use mathlib.Core.Path.{◌∙◌}
 use Rattle.entries.proofs.Making.{flops_by}
 use lib.ListN.{length-set}
 use native.Mathlib.Omega.{arith}

@@ -1,5 +1,4 @@
 use Rattle.evaluate.proofs.Answers.{refused, begins, accepted}
-use borrow.Author.Rules.{rules}
 use Rattle.evaluate.proofs.evaluate.Goals as goal
 
 pub returns-then-k-ne0 : goal.returns-then-k-ne0

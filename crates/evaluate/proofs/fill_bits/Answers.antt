@@ -1,10 +1,7 @@
 use Rattle.evaluate.proofs.Fillings.{fills, fills_end}
-use Rattle.evaluate.specs.Bits.{Filling}
 use borrow.Author.Rules.{rules}
 use native.Mathlib.Omega.{arith}
-use lib.ListN.{length, length-set}
-use mathlib.Core.Path.{◌≡◌}
-use Prim.Native.Nat.{◌≤◌, ◌-◌}
+use lib.ListN.{length-set}
 use Rattle.evaluate.proofs.fill_bits.Goals as goal
 
 pub loop-u-init : goal.loop-u-init

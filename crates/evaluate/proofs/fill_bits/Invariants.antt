@@ -1,8 +1,5 @@
-use Rattle.evaluate.proofs.Fillings.{fills, fills_end}
 use Rattle.evaluate.specs.Bits.{Filling}
-use borrow.Author.Rules.{rules}
-use native.Mathlib.Omega.{arith}
-use lib.ListN.{length, length-set}
+use lib.ListN.{length}
 use mathlib.Core.Path.{◌≡◌}
 use Prim.Native.Nat.{◌≤◌, ◌-◌}
 use Rattle.evaluate.proofs.fill_bits.Given as goal

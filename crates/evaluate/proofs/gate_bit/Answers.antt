@@ -1,5 +1,4 @@
 use Rattle.evaluate.proofs.Fillings.{first_in, first_low, second_in, second_low, gate_off, gate_second}
-use borrow.Author.Rules.{rules}
 use Rattle.evaluate.proofs.gate_bit.Goals as goal
 
 pub literal_bit-x-requires : goal.literal_bit-x-requires

@@ -1,5 +1,4 @@
 use Rattle.evaluate.proofs.Answers.{sources_off, sources_on}
-use borrow.Author.Rules.{rules}
 use Rattle.evaluate.proofs.lengths_fit.Goals as goal
 
 pub returns-then-sources-m : goal.returns-then-sources-m

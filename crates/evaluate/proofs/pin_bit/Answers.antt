@@ -1,5 +1,4 @@
 use Rattle.evaluate.proofs.Fillings.{tag_is, constant_bit, source_word}
-use borrow.Author.Rules.{rules}
 use Rattle.evaluate.proofs.pin_bit.Goals as goal
 
 pub gate_bit-requires : goal.gate_bit-requires

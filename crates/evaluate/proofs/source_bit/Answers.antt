@@ -1,5 +1,4 @@
 use Rattle.evaluate.proofs.Fillings.{source_off, source_on}
-use borrow.Author.Rules.{rules}
 use Rattle.evaluate.proofs.source_bit.Goals as goal
 
 pub returns-then-s-eq0 : goal.returns-then-s-eq0

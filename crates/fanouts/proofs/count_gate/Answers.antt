@@ -1,5 +1,4 @@
 use Rattle.fanouts.proofs.Counts.{count_none, first_in, first_low, second_in, second_low, count-both}
-use borrow.Author.Rules.{rules}
 use Rattle.fanouts.proofs.count_gate.Goals as goal
 
 pub returns-then-t-ne1 : goal.returns-then-t-ne1

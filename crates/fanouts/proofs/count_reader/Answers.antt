@@ -1,5 +1,4 @@
 use Rattle.fanouts.proofs.Counts.{counted}
-use borrow.Author.Rules.{rules}
 use Rattle.fanouts.proofs.count_reader.Goals as goal
 
 pub returns : goal.returns

@@ -1,9 +1,6 @@
-use Rattle.fanouts.proofs.Counts.{Counting, counts_begin, countable, counts_go_on, counts_end}
+use Rattle.fanouts.proofs.Counts.{counts_begin, countable, counts_go_on, counts_end}
 use borrow.Author.Rules.{rules}
 use native.Mathlib.Omega.{arith}
-use lib.ListN.{length}
-use mathlib.Core.Path.{◌≡◌}
-use Prim.Native.Nat.{◌≤◌, ◌-◌}
 use Rattle.fanouts.proofs.count_readers.Goals as goal
 
 pub loop-u-init : goal.loop-u-init

@@ -1,6 +1,4 @@
-use Rattle.fanouts.proofs.Counts.{Counting, counts_begin, countable, counts_go_on, counts_end}
-use borrow.Author.Rules.{rules}
-use native.Mathlib.Omega.{arith}
+use Rattle.fanouts.proofs.Counts.{Counting}
 use lib.ListN.{length}
 use mathlib.Core.Path.{◌≡◌}
 use Prim.Native.Nat.{◌≤◌, ◌-◌}

@@ -1,6 +1,5 @@
 use Rattle.fanouts.proofs.Passes.{sum_asks, no_room, placing_begins, fans_out}
 use native.Mathlib.Omega.{arith}
-use borrow.Author.Rules.{rules}
 use Rattle.fanouts.proofs.fan_out.Goals as goal
 
 pub count_readers-requires : goal.count_readers-requires

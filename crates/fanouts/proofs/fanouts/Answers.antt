@@ -1,6 +1,5 @@
 use Rattle.fanouts.proofs.Answers.{refused_early, fan_asks, refused_room, accepted}
 use borrow.Author.Tests.{not-true, not-false}
-use borrow.Author.Rules.{rules}
 use Rattle.fanouts.proofs.fanouts.Goals as goal
 
 pub returns-then-k-ne0 : goal.returns-then-k-ne0

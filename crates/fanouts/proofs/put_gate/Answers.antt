@@ -1,5 +1,4 @@
 use Rattle.fanouts.proofs.Places.{gate-none, at_first, some_first, room_first, at_second, some_second, room_second, gate-both}
-use borrow.Author.Rules.{rules}
 use Rattle.fanouts.proofs.put_gate.Goals as goal
 
 pub returns-then-t-ne1 : goal.returns-then-t-ne1

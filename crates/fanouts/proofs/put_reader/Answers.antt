@@ -1,5 +1,4 @@
 use Rattle.fanouts.proofs.Places.{put_one}
-use borrow.Author.Rules.{rules}
 use Rattle.fanouts.proofs.put_reader.Goals as goal
 
 pub returns : goal.returns

@@ -1,10 +1,6 @@
 use Rattle.fanouts.proofs.Places.{roomy, places_go_on, places_end}
-use Rattle.fanouts.specs.Fans.{Placing}
 use borrow.Author.Rules.{rules}
 use native.Mathlib.Omega.{arith}
-use lib.ListN.{length}
-use mathlib.Core.Path.{◌≡◌}
-use Prim.Native.Nat.{◌≤◌, ◌-◌}
 use Rattle.fanouts.proofs.put_readers.Goals as goal
 
 pub loop-u-init : goal.loop-u-init

@@ -1,7 +1,4 @@
-use Rattle.fanouts.proofs.Places.{roomy, places_go_on, places_end}
 use Rattle.fanouts.specs.Fans.{Placing}
-use borrow.Author.Rules.{rules}
-use native.Mathlib.Omega.{arith}
 use lib.ListN.{length}
 use mathlib.Core.Path.{◌≡◌}
 use Prim.Native.Nat.{◌≤◌, ◌-◌}

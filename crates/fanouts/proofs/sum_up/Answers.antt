@@ -1,9 +1,8 @@
-use Rattle.fanouts.proofs.Sums.{Summing, sums_begin, sum_fits, sums_go_on, sums_end}
+use Rattle.fanouts.proofs.Sums.{sums_begin, sum_fits, sums_go_on, sums_end}
 use borrow.Author.Rules.{rules}
 use native.Mathlib.Omega.{arith}
-use lib.ListN.{length, length-set}
-use mathlib.Core.Path.{◌≡◌}
-use Prim.Native.Nat.{◌≤◌, ◌-◌, ◌+◌}
+use lib.ListN.{length-set}
+use Prim.Native.Nat.{◌≤◌, ◌+◌}
 use Rattle.fanouts.proofs.sum_up.Goals as goal
 
 pub loop-i-init : goal.loop-i-init

@@ -1,9 +1,7 @@
-use Rattle.fanouts.proofs.Sums.{Summing, sums_begin, sum_fits, sums_go_on, sums_end}
-use borrow.Author.Rules.{rules}
-use native.Mathlib.Omega.{arith}
-use lib.ListN.{length, length-set}
+use Rattle.fanouts.proofs.Sums.{Summing}
+use lib.ListN.{length}
 use mathlib.Core.Path.{◌≡◌}
-use Prim.Native.Nat.{◌≤◌, ◌-◌, ◌+◌}
+use Prim.Native.Nat.{◌≤◌, ◌-◌}
 use Rattle.fanouts.proofs.sum_up.Given as goal
 
 abbrev pub invariant-loop-i : goal.invariant-loop-i

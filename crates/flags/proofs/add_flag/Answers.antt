@@ -1,6 +1,5 @@
-use Rattle.flags.proofs.Making.{place_in, flag_known, flag_full, flag_new}
+use Rattle.flags.proofs.Making.{flag_known, flag_full, flag_new}
 use borrow.Author.Tests.{not-true, not-false}
-use borrow.Author.Rules.{rules}
 use Rattle.flags.proofs.add_flag.Goals as goal
 
 pub returns-then-old-ne0 : goal.returns-then-old-ne0

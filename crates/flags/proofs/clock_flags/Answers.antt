@@ -1,11 +1,7 @@
-use Rattle.flags.proofs.Passing.{PassingCells, cells_begin, cells_state, cells_go_on, cells_stop, cells_end}
-use Rattle.flags.specs.Flagging.{Blank}
+use Rattle.flags.proofs.Passing.{cells_begin, cells_state, cells_go_on, cells_stop, cells_end}
 use borrow.Author.Tests.{not-true, not-false}
 use borrow.Author.Rules.{rules}
-use lib.ListN.{length}
 use native.Mathlib.Omega.{arith}
-use Prim.Native.Nat.{◌+◌, ◌-◌, ◌≤◌}
-use mathlib.Core.Path.{◌≡◌}
 use Rattle.flags.proofs.clock_flags.Goals as goal
 
 pub loop-cell-init : goal.loop-cell-init

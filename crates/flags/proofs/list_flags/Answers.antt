@@ -1,12 +1,8 @@
-use Rattle.flags.proofs.Passing.{PassingList, list_begins, list_state, list_goes_on, list_stops, list_ends}
+use Rattle.flags.proofs.Passing.{list_begins, list_state, list_goes_on, list_stops, list_ends}
 use Rattle.clocks.proofs.Numbering.{span_below}
 use borrow.Author.Tests.{not-true, not-false}
 use borrow.Author.Rules.{rules}
-use lib.ListN.{length}
 use native.Mathlib.Omega.{arith}
-use Prim.Native.Nat.{◌+◌, ◌-◌, ◌≤◌}
-use Rattle.clocks.specs.Walks.{Span}
-use mathlib.Core.Path.{◌≡◌}
 use Rattle.flags.proofs.list_flags.Goals as goal
 
 pub loop-i-init : goal.loop-i-init

@@ -1,6 +1,5 @@
 use borrow.Author.Tests.{not-true, not-false}
 use Rattle.flops.proofs.Flopping.{known, record_room, flop_stops, flop_made_lem}
-use borrow.Author.Rules.{rules}
 use Rattle.flops.proofs.flop.Goals as goal
 
 pub flop_place-k-requires : goal.flop_place-k-requires

@@ -1,6 +1,5 @@
 use borrow.Author.Tests.{not-true, not-false}
 use Rattle.flops.proofs.Flopping.{four_stops, four_made, four_ready}
-use borrow.Author.Rules.{rules}
 use Rattle.flops.proofs.flop_gates.Goals as goal
 
 pub returns-then-not-set : goal.returns-then-not-set

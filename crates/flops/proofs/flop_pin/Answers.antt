@@ -1,5 +1,4 @@
 use Rattle.flops.proofs.Flopping.{pin_place, pin_told}
-use borrow.Author.Rules.{rules}
 use Rattle.flops.proofs.flop_pin.Goals as goal
 
 pub word-requires : goal.word-requires

@@ -1,5 +1,4 @@
 use Rattle.flops.proofs.Flopping.{number_place, number_some, number-told}
-use borrow.Author.Rules.{rules}
 use Rattle.flops.proofs.flop_place.Goals as goal
 
 pub word-number-requires : goal.word-number-requires

@@ -1,7 +1,6 @@
 use native.Mathlib.Omega.{arith}
 use Rattle.roles.proofs.Fitting.{laid}
 use Rattle.flops.proofs.Flopping.{named_place, named-told, named_none}
-use borrow.Author.Rules.{rules}
 use Rattle.flops.proofs.lit_named.Goals as goal
 
 pub cell_entry-found-requires : goal.cell_entry-found-requires

@@ -1,6 +1,5 @@
 use borrow.Author.Tests.{not-true, not-false}
 use Rattle.flops.proofs.Flopping.{reset_stops, reset_made, reset_ready}
-use borrow.Author.Rules.{rules}
 use Rattle.flops.proofs.reset_both.Goals as goal
 
 pub returns-then-not-one : goal.returns-then-not-one

@@ -1,5 +1,4 @@
 use Rattle.gates.proofs.Steps.{first_zero, second_zero, first_one, second_one, second_first, first_first}
-use borrow.Author.Rules.{rules}
 use Rattle.gates.proofs.add_and_gate.Goals as goal
 
 pub returns-then-x-eq0 : goal.returns-then-x-eq0

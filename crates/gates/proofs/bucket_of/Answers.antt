@@ -1,5 +1,4 @@
 use Rattle.gates.proofs.Find.{bucket_is, bucket_low}
-use borrow.Author.Rules.{rules}
 use Rattle.gates.proofs.bucket_of.Goals as goal
 
 pub returns : goal.returns

@@ -1,7 +1,4 @@
-use Rattle.gates.proofs.Find.{Searching, rows_few, search_begins, search_finds, search_goes_on, link_less, search_ends}
-use borrow.Author.Rules.{rules}
-use native.Mathlib.Omega.{arith}
-use Prim.Native.Nat.{◌+◌, ◌-◌}
+use Rattle.gates.proofs.Find.{Searching}
 use Rattle.gates.proofs.find_pair.Given as goal
 
 abbrev pub invariant-loop-p : goal.invariant-loop-p

@@ -1,5 +1,4 @@
 use Rattle.gates.proofs.Pairs.{tag_differs, first_differs, second_tells}
-use borrow.Author.Rules.{rules}
 use Rattle.gates.proofs.is_pair.Goals as goal
 
 pub returns-then-drivers-at-ne1 : goal.returns-then-drivers-at-ne1

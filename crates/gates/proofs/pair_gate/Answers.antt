@@ -1,5 +1,4 @@
 use Rattle.gates.proofs.Steps.{pair_old, pair_full, pair_new}
-use borrow.Author.Rules.{rules}
 use Rattle.gates.proofs.pair_gate.Goals as goal
 
 pub returns-then-p-pins : goal.returns-then-p-pins

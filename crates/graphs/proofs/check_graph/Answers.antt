@@ -5,7 +5,6 @@ use Rattle.laws.specs.Words.{zeros}
 use Rattle.rules.specs.Answers.{graph_number, done_of, check_graph_number}
 use Rattle.graphs.specs.Parts.{lent}
 use Rattle.graphs.proofs.Numbers.{zeros_self}
-use borrow.Author.Rules.{rules}
 use Rattle.graphs.proofs.check_graph.Goals as goal
 
 pub graph_number-number-requires : goal.graph_number-number-requires

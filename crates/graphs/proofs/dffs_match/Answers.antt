@@ -1,6 +1,5 @@
 use Rattle.graphs.proofs.Both.{dffs_unmarked, dffs_compared}
 use borrow.Author.Tests.{not-true, not-false}
-use borrow.Author.Rules.{rules}
 use Rattle.graphs.proofs.dffs_match.Goals as goal
 
 pub returns-then-not-set : goal.returns-then-not-set

@@ -1,5 +1,4 @@
 use Rattle.graphs.proofs.Numbers.{done_accepted, done_refused}
-use borrow.Author.Rules.{rules}
 use Rattle.graphs.proofs.done.Goals as goal
 
 pub returns-then-number-eq0 : goal.returns-then-number-eq0

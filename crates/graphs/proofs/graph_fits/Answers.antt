@@ -1,8 +1,6 @@
 use Rattle.graphs.proofs.Numbers.{drives_yes}
 use Rattle.graphs.proofs.Numbers.{rows_long, all_clear, drives_no, records_tell}
 use borrow.Author.Tests.{not-true, not-false}
-use native.Mathlib.Omega.{arith}
-use borrow.Author.Rules.{rules}
 use Rattle.graphs.proofs.graph_fits.Goals as goal
 
 pub returns-then-not-drives : goal.returns-then-not-drives

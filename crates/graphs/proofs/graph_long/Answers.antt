@@ -1,5 +1,4 @@
 use Rattle.graphs.proofs.Numbers.{drivers_differ, outputs_differ, dffs_differ, rams_differ, work_tells}
-use borrow.Author.Rules.{rules}
 use Rattle.graphs.proofs.graph_long.Goals as goal
 
 pub returns-then-drivers-p : goal.returns-then-drivers-p

@@ -1,7 +1,5 @@
 use Rattle.graphs.proofs.Numbers.{fitting, not_within, no_counts, not_long, no_lengths, not_fitting, all_fits}
 use borrow.Author.Tests.{not-true, not-false}
-use native.Mathlib.Omega.{arith}
-use borrow.Author.Rules.{rules}
 use Rattle.graphs.proofs.graph_number.Goals as goal
 
 pub returns-then-not-within : goal.returns-then-not-within

@@ -1,8 +1,6 @@
 use Rattle.graphs.proofs.Steps.{outputs_unfit, flops_unfit, memories_unfit}
 use borrow.Author.Tests.{not-true, not-false}
 use mathlib.Core.Path.{refl}
-use native.Mathlib.Omega.{arith}
-use borrow.Author.Rules.{rules}
 use Rattle.graphs.proofs.literals_fit.Goals as goal
 
 pub returns-then-not-first : goal.returns-then-not-first

@@ -1,10 +1,6 @@
-use Rattle.marks.proofs.Picking.{Picking, always, pick_begins, each_goes_on, each_fails, each_ends}
-use borrow.Author.Tests.{not-true, not-false}
-use lib.ListN.{length, get_or}
+use Rattle.marks.proofs.Picking.{Picking, always}
+use lib.ListN.{get_or}
 use Prim.Native.Nat.{ℕ, ◌-◌, ◌*◌, ◌+◌}
-use mathlib.Core.Path.{refl}
-use native.Mathlib.Omega.{arith}
-use borrow.Author.Rules.{rules}
 use Rattle.graphs.proofs.mark_dffs.Given as goal
 
 abbrev pub invariant-loop-k : goal.invariant-loop-k

@@ -1,6 +1,5 @@
 use Rattle.graphs.specs.Parts.{absent, there}
 use mathlib.Core.Path.{refl}
-use borrow.Author.Rules.{rules}
 use Rattle.graphs.proofs.mark_present.Goals as goal
 
 pub returns-then-p-eq0 : goal.returns-then-p-eq0

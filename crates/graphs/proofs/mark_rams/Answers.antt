@@ -1,11 +1,6 @@
-use Rattle.graphs.proofs.Rams.{present, rams_go_on, rams_fail, rams_end}
-use Rattle.graphs.specs.Parts.{read_word}
-use Rattle.marks.proofs.Picking.{Picking, pick_begins}
+use Rattle.graphs.proofs.Rams.{rams_go_on, rams_fail, rams_end}
+use Rattle.marks.proofs.Picking.{pick_begins}
 use borrow.Author.Tests.{not-true, not-false}
-use lib.ListN.{length, get_or}
-use Prim.Native.Nat.{ℕ, ◌-◌, ◌*◌, ◌+◌}
-use native.Mathlib.Omega.{arith}
-use borrow.Author.Rules.{rules}
 use Rattle.graphs.proofs.mark_rams.Goals as goal
 
 pub loop-i-init : goal.loop-i-init

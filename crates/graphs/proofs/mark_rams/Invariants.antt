@@ -1,11 +1,7 @@
-use Rattle.graphs.proofs.Rams.{present, rams_go_on, rams_fail, rams_end}
+use Rattle.graphs.proofs.Rams.{present}
 use Rattle.graphs.specs.Parts.{read_word}
-use Rattle.marks.proofs.Picking.{Picking, pick_begins}
-use borrow.Author.Tests.{not-true, not-false}
-use lib.ListN.{length, get_or}
-use Prim.Native.Nat.{ℕ, ◌-◌, ◌*◌, ◌+◌}
-use native.Mathlib.Omega.{arith}
-use borrow.Author.Rules.{rules}
+use Rattle.marks.proofs.Picking.{Picking}
+use Prim.Native.Nat.{◌-◌, ◌*◌}
 use Rattle.graphs.proofs.mark_rams.Given as goal
 
 abbrev pub invariant-loop-i : goal.invariant-loop-i

@@ -1,10 +1,6 @@
 use Rattle.graphs.specs.Parts.{mark_matches}
-use Rattle.laws.proofs.Scans.{Scanned, scan_begins, scan_goes_on, scan_fails, scan_passes, scan_stops, scan_ends}
-use borrow.Author.Tests.{not-true, not-false}
-use lib.ListN.{length, get_or}
-use Prim.Native.Nat.{ℕ, ◌-◌, ◌*◌, ◌+◌, ◌≤◌}
-use native.Mathlib.Omega.{arith}
-use borrow.Author.Rules.{rules}
+use Rattle.laws.proofs.Scans.{Scanned}
+use Prim.Native.Nat.{◌-◌}
 use Rattle.graphs.proofs.marks_match.Given as goal
 
 abbrev pub invariant-loop-u : goal.invariant-loop-u

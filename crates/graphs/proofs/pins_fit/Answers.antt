@@ -1,12 +1,5 @@
 use Rattle.graphs.proofs.Scanning.{pin_past, pin_within}
-use Rattle.laws.specs.Tests.{◌≤?◌}
-use Rattle.rules.specs.Graph.{pin_of}
-use Rattle.laws.proofs.Scans.{Scanned, scan_begins, scan_goes_on, scan_fails, scan_passes, scan_stops, scan_ends}
-use borrow.Author.Tests.{not-true, not-false}
-use lib.ListN.{length, get_or}
-use Prim.Native.Nat.{ℕ, ◌-◌, ◌*◌, ◌+◌, ◌≤◌}
-use native.Mathlib.Omega.{arith}
-use borrow.Author.Rules.{rules}
+use Rattle.laws.proofs.Scans.{scan_begins, scan_passes, scan_stops, scan_ends}
 use Rattle.graphs.proofs.pins_fit.Goals as goal
 
 pub loop-i-init : goal.loop-i-init

@@ -1,12 +1,8 @@
-use Rattle.graphs.proofs.Scanning.{pin_past, pin_within}
 use Rattle.laws.specs.Tests.{◌≤?◌}
 use Rattle.rules.specs.Graph.{pin_of}
-use Rattle.laws.proofs.Scans.{Scanned, scan_begins, scan_goes_on, scan_fails, scan_passes, scan_stops, scan_ends}
-use borrow.Author.Tests.{not-true, not-false}
-use lib.ListN.{length, get_or}
-use Prim.Native.Nat.{ℕ, ◌-◌, ◌*◌, ◌+◌, ◌≤◌}
-use native.Mathlib.Omega.{arith}
-use borrow.Author.Rules.{rules}
+use Rattle.laws.proofs.Scans.{Scanned}
+use lib.ListN.{get_or}
+use Prim.Native.Nat.{ℕ, ◌-◌, ◌+◌}
 use Rattle.graphs.proofs.pins_fit.Given as goal
 
 abbrev pub invariant-loop-i : goal.invariant-loop-i

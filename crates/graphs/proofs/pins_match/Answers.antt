@@ -1,7 +1,6 @@
 use Rattle.graphs.proofs.Steps.{clear_first, clear_second, flops_differ, memories_tell}
 use borrow.Author.Tests.{not-true, not-false}
 use native.Mathlib.Omega.{arith}
-use borrow.Author.Rules.{rules}
 use Rattle.graphs.proofs.pins_match.Goals as goal
 
 pub dffs_match-first-requires : goal.dffs_match-first-requires

@@ -1,10 +1,5 @@
-use Rattle.graphs.specs.Parts.{ram_row_fits}
-use Rattle.laws.proofs.Scans.{Scanned, scan_begins, scan_goes_on, scan_fails, scan_passes, scan_stops, scan_ends}
+use Rattle.laws.proofs.Scans.{scan_begins, scan_goes_on, scan_fails, scan_ends}
 use borrow.Author.Tests.{not-true, not-false}
-use lib.ListN.{length, get_or}
-use Prim.Native.Nat.{ℕ, ◌-◌, ◌*◌, ◌+◌, ◌≤◌}
-use native.Mathlib.Omega.{arith}
-use borrow.Author.Rules.{rules}
 use Rattle.graphs.proofs.ram_literals_fit.Goals as goal
 
 pub loop-k-init : goal.loop-k-init

@@ -1,7 +1,5 @@
 use Rattle.graphs.proofs.Scanning.{first_unfit, then_second}
 use borrow.Author.Tests.{not-true, not-false}
-use native.Mathlib.Omega.{arith}
-use borrow.Author.Rules.{rules}
 use Rattle.graphs.proofs.ram_row_fits.Goals as goal
 
 pub returns-then-not-first : goal.returns-then-not-first

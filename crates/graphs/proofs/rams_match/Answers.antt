@@ -1,6 +1,5 @@
 use Rattle.graphs.proofs.Both.{rams_unmarked, rams_compared}
 use borrow.Author.Tests.{not-true, not-false}
-use borrow.Author.Rules.{rules}
 use Rattle.graphs.proofs.rams_match.Goals as goal
 
 pub returns-then-not-set : goal.returns-then-not-set

@@ -1,7 +1,6 @@
 use Rattle.graphs.proofs.Steps.{clear_half, clear_rest, pins_unfit, literals_tell}
 use borrow.Author.Tests.{not-true, not-false}
 use native.Mathlib.Omega.{arith}
-use borrow.Author.Rules.{rules}
 use Rattle.graphs.proofs.records_fit.Goals as goal
 
 pub pins_match-matched-requires : goal.pins_match-matched-requires

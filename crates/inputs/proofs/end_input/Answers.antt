@@ -1,5 +1,4 @@
 use Rattle.inputs.proofs.Places.{not_there, is_there}
-use borrow.Author.Rules.{rules}
 use Rattle.inputs.proofs.end_input.Goals as goal
 
 pub returns-then-num_endpoint_groups-e : goal.returns-then-num_endpoint_groups-e

@@ -1,7 +1,6 @@
 use Rattle.inputs.proofs.Answers.{many, not_long, no_endpoint, lent, no_input, the_input}
 use borrow.Author.Tests.{not-true, not-false}
 use native.Mathlib.Omega.{arith}
-use borrow.Author.Rules.{rules}
 use Rattle.inputs.proofs.endpoint_input.Goals as goal
 
 pub returns-then-not-counts_fit : goal.returns-then-not-counts_fit

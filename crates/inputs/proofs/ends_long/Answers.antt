@@ -1,5 +1,4 @@
 use Rattle.inputs.proofs.Search.{outputs_differ, dffs_differ, rams_tell}
-use borrow.Author.Rules.{rules}
 use Rattle.inputs.proofs.ends_long.Goals as goal
 
 pub returns-then-outputs-c : goal.returns-then-outputs-c

@@ -1,7 +1,5 @@
-use Rattle.inputs.proofs.Search.{Seeking, seek_begins, seek_finds, seek_goes_on, seek_ends}
-use Prim.Native.Nat.{◌-◌}
+use Rattle.inputs.proofs.Search.{seek_begins, seek_finds, seek_goes_on, seek_ends}
 use native.Mathlib.Omega.{arith}
-use borrow.Author.Rules.{rules}
 use Rattle.inputs.proofs.find_input.Goals as goal
 
 pub loop-j-init : goal.loop-j-init

@@ -1,7 +1,5 @@
-use Rattle.inputs.proofs.Search.{Seeking, seek_begins, seek_finds, seek_goes_on, seek_ends}
+use Rattle.inputs.proofs.Search.{Seeking}
 use Prim.Native.Nat.{◌-◌}
-use native.Mathlib.Omega.{arith}
-use borrow.Author.Rules.{rules}
 use Rattle.inputs.proofs.find_input.Given as goal
 
 abbrev pub invariant-loop-j : goal.invariant-loop-j

@@ -1,5 +1,4 @@
 use Rattle.inputs.proofs.Places.{at_handed, at_end, at_taken}
-use borrow.Author.Rules.{rules}
 use Rattle.inputs.proofs.place_input.Goals as goal
 
 pub returns-then-k-handed : goal.returns-then-k-handed

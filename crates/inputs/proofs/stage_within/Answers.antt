@@ -1,6 +1,5 @@
 use Rattle.inputs.proofs.Places.{counts_many, handed_many, taken_tell}
 use borrow.Author.Tests.{not-true, not-false}
-use borrow.Author.Rules.{rules}
 use Rattle.inputs.proofs.stage_within.Goals as goal
 
 pub returns-then-not-counts_fit : goal.returns-then-not-counts_fit

@@ -1,6 +1,5 @@
 use Rattle.inputs.proofs.Places.{stage_many, stage_short, stage-lent, stage-none, stage_input}
 use borrow.Author.Tests.{not-true, not-false}
-use borrow.Author.Rules.{rules}
 use Rattle.inputs.proofs.staged_input.Goals as goal
 
 pub returns-then-not-stage_within : goal.returns-then-not-stage_within

@@ -1,10 +1,4 @@
-use Rattle.joins.proofs.Joins.{JoiningTo, joins_begin, joins_known, joins_set, joins_inside, joins_go_on, joins_end}
-use lib.ListN.{length, get_or}
-use Prim.Native.Nat.{ℕ, ◌+◌, ◌-◌, ◌*◌, ◌≤◌, ◌<◌}
-use mathlib.Core.Path.{◌≡◌}
-use borrow.Author.Tests.{not-true, not-false}
-use borrow.Author.Rules.{rules}
-use native.Mathlib.Omega.{arith}
+use Rattle.joins.proofs.Joins.{joins_begin, joins_known, joins_set, joins_inside, joins_go_on, joins_end}
 use Rattle.joins.proofs.join_all.Goals as goal
 
 pub loop-i-init : goal.loop-i-init

@@ -1,10 +1,5 @@
-use Rattle.joins.proofs.Joins.{JoiningTo, joins_begin, joins_known, joins_set, joins_inside, joins_go_on, joins_end}
-use lib.ListN.{length, get_or}
-use Prim.Native.Nat.{ℕ, ◌+◌, ◌-◌, ◌*◌, ◌≤◌, ◌<◌}
-use mathlib.Core.Path.{◌≡◌}
-use borrow.Author.Tests.{not-true, not-false}
-use borrow.Author.Rules.{rules}
-use native.Mathlib.Omega.{arith}
+use Rattle.joins.proofs.Joins.{JoiningTo}
+use Prim.Native.Nat.{◌-◌}
 use Rattle.joins.proofs.join_all.Given as goal
 
 abbrev pub invariant-loop-i : goal.invariant-loop-i

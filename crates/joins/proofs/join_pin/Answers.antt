@@ -1,10 +1,4 @@
 use Rattle.joins.proofs.Joins.{join_high, join_known, join-set, join-low}
-use lib.ListN.{length, get_or}
-use Prim.Native.Nat.{ℕ, ◌+◌, ◌-◌, ◌*◌, ◌≤◌, ◌<◌}
-use mathlib.Core.Path.{◌≡◌}
-use borrow.Author.Tests.{not-true, not-false}
-use native.Mathlib.Omega.{arith}
-use borrow.Author.Rules.{rules}
 use Rattle.joins.proofs.join_pin.Goals as goal
 
 pub returns-then-d-x : goal.returns-then-d-x

@@ -1,10 +1,4 @@
-use Rattle.joins.proofs.Reading.{more-read, last_set, last_read, last_long}
-use lib.ListN.{length, get_or}
-use Prim.Native.Nat.{ℕ, ◌+◌, ◌-◌, ◌*◌, ◌≤◌, ◌<◌}
-use mathlib.Core.Path.{◌≡◌}
-use borrow.Author.Tests.{not-true, not-false}
-use native.Mathlib.Omega.{arith}
-use borrow.Author.Rules.{rules}
+use Rattle.joins.proofs.Reading.{more-read, last_set, last_read}
 use Rattle.joins.proofs.read_one.Goals as goal
 
 pub returns-then-r-gt1 : goal.returns-then-r-gt1

@@ -1,10 +1,4 @@
 use Rattle.joins.proofs.Joins.{none_read, first_below, second_below, both_read, read_set}
-use lib.ListN.{length, get_or}
-use Prim.Native.Nat.{ℕ, ◌+◌, ◌-◌, ◌*◌, ◌≤◌, ◌<◌}
-use mathlib.Core.Path.{◌≡◌}
-use borrow.Author.Tests.{not-true, not-false}
-use native.Mathlib.Omega.{arith}
-use borrow.Author.Rules.{rules}
 use Rattle.joins.proofs.read_operands.Goals as goal
 
 pub returns-then-o-eq0 : goal.returns-then-o-eq0

@@ -1,10 +1,4 @@
-use Rattle.joins.proofs.Reading.{ReadingTaken, taken_begin, taken_set, taken_endpoint, taken_go_on, taken_end}
-use lib.ListN.{length, get_or}
-use Prim.Native.Nat.{ℕ, ◌+◌, ◌-◌, ◌*◌, ◌≤◌, ◌<◌}
-use mathlib.Core.Path.{◌≡◌}
-use borrow.Author.Tests.{not-true, not-false}
-use borrow.Author.Rules.{rules}
-use native.Mathlib.Omega.{arith}
+use Rattle.joins.proofs.Reading.{taken_begin, taken_set, taken_endpoint, taken_go_on, taken_end}
 use Rattle.joins.proofs.read_taken.Goals as goal
 
 pub loop-i-init : goal.loop-i-init

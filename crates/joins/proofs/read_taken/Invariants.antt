@@ -1,10 +1,5 @@
-use Rattle.joins.proofs.Reading.{ReadingTaken, taken_begin, taken_set, taken_endpoint, taken_go_on, taken_end}
-use lib.ListN.{length, get_or}
-use Prim.Native.Nat.{ℕ, ◌+◌, ◌-◌, ◌*◌, ◌≤◌, ◌<◌}
-use mathlib.Core.Path.{◌≡◌}
-use borrow.Author.Tests.{not-true, not-false}
-use borrow.Author.Rules.{rules}
-use native.Mathlib.Omega.{arith}
+use Rattle.joins.proofs.Reading.{ReadingTaken}
+use Prim.Native.Nat.{◌-◌}
 use Rattle.joins.proofs.read_taken.Given as goal
 
 abbrev pub invariant-loop-i : goal.invariant-loop-i

@@ -1,5 +1,4 @@
 use Rattle.kinds.proofs.Whole.{words, word_is}
-use borrow.Author.Rules.{rules}
 use Rattle.kinds.proofs.kind_word.Goals as goal
 
 pub returns : goal.returns

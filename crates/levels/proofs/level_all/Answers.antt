@@ -1,10 +1,4 @@
-use Rattle.levels.proofs.Ranked.{LevelsTo, levels_begin, levels_known, levels_raising, levels_go_on, levels_end}
-use lib.ListN.{length, get_or}
-use Prim.Native.Nat.{ℕ, ◌+◌, ◌-◌, ◌*◌, ◌≤◌, ◌<◌}
-use mathlib.Core.Path.{◌≡◌}
-use borrow.Author.Tests.{not-true, not-false}
-use borrow.Author.Rules.{rules}
-use native.Mathlib.Omega.{arith}
+use Rattle.levels.proofs.Ranked.{levels_begin, levels_known, levels_raising, levels_go_on, levels_end}
 use Rattle.levels.proofs.level_all.Goals as goal
 
 pub loop-i-init : goal.loop-i-init

@@ -1,10 +1,4 @@
 use Rattle.levels.proofs.Raises.{pin_nowhere, pin_rises, pin_raised}
-use lib.ListN.{length, get_or}
-use Prim.Native.Nat.{ℕ, ◌+◌, ◌-◌, ◌*◌, ◌≤◌, ◌<◌}
-use mathlib.Core.Path.{◌≡◌}
-use borrow.Author.Tests.{not-true, not-false}
-use native.Mathlib.Omega.{arith}
-use borrow.Author.Rules.{rules}
 use Rattle.levels.proofs.level_pin.Goals as goal
 
 pub returns-then-o-eq0 : goal.returns-then-o-eq0

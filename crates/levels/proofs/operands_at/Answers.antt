@@ -1,10 +1,4 @@
 use Rattle.levels.proofs.Raises.{leads_source, leads_stop, leads_gate}
-use lib.ListN.{length, get_or}
-use Prim.Native.Nat.{ℕ, ◌+◌, ◌-◌, ◌*◌, ◌≤◌, ◌<◌}
-use mathlib.Core.Path.{◌≡◌}
-use borrow.Author.Tests.{not-true, not-false}
-use native.Mathlib.Omega.{arith}
-use borrow.Author.Rules.{rules}
 use Rattle.levels.proofs.operands_at.Goals as goal
 
 pub returns-then-tag-ne1 : goal.returns-then-tag-ne1

@@ -1,10 +1,4 @@
-use Rattle.levels.proofs.Raises.{first_inside, first_room, second_inside, second_room, raise_long, raise_done}
-use lib.ListN.{length, get_or}
-use Prim.Native.Nat.{ℕ, ◌+◌, ◌-◌, ◌*◌, ◌≤◌, ◌<◌}
-use mathlib.Core.Path.{◌≡◌}
-use borrow.Author.Tests.{not-true, not-false}
-use native.Mathlib.Omega.{arith}
-use borrow.Author.Rules.{rules}
+use Rattle.levels.proofs.Raises.{first_inside, first_room, second_inside, second_room, raise_done}
 use Rattle.levels.proofs.raise.Goals as goal
 
 pub bump-requires : goal.bump-requires

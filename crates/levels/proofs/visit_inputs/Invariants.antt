@@ -1,10 +1,5 @@
-use Rattle.levels.proofs.Gathers.{VisitingIns, ins_begin, ins_going, ins_number, ins_pin, ins_spare, ins_go_on, ins_end}
-use lib.ListN.{length, get_or}
-use Prim.Native.Nat.{ℕ, ◌+◌, ◌-◌, ◌*◌, ◌≤◌, ◌<◌}
-use mathlib.Core.Path.{◌≡◌}
-use borrow.Author.Tests.{not-true, not-false}
-use borrow.Author.Rules.{rules}
-use native.Mathlib.Omega.{arith}
+use Rattle.levels.proofs.Gathers.{VisitingIns}
+use Prim.Native.Nat.{◌-◌}
 use Rattle.levels.proofs.visit_inputs.Given as goal
 
 abbrev pub invariant-loop-i : goal.invariant-loop-i

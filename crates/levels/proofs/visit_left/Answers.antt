@@ -1,10 +1,4 @@
-use Rattle.levels.proofs.Gathers.{VisitingLeft, left_begin, left_going, left_endpoint, left_spare, left_go_on, left_end}
-use lib.ListN.{length, get_or}
-use Prim.Native.Nat.{ℕ, ◌+◌, ◌-◌, ◌*◌, ◌≤◌, ◌<◌}
-use mathlib.Core.Path.{◌≡◌}
-use borrow.Author.Tests.{not-true, not-false}
-use borrow.Author.Rules.{rules}
-use native.Mathlib.Omega.{arith}
+use Rattle.levels.proofs.Gathers.{left_begin, left_going, left_endpoint, left_spare, left_go_on, left_end}
 use Rattle.levels.proofs.visit_left.Goals as goal
 
 pub loop-i-init : goal.loop-i-init

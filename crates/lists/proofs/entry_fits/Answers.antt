@@ -1,5 +1,4 @@
 use Rattle.lists.proofs.Steps.{entry_out, entry_by}
-use borrow.Author.Rules.{rules}
 use Rattle.lists.proofs.entry_fits.Goals as goal
 
 pub returns-then-size-q : goal.returns-then-size-q

@@ -1,7 +1,5 @@
-use Rattle.lists.proofs.Musts.{Lacking, lacking_begins, lacking_ends}
+use Rattle.lists.proofs.Musts.{lacking_begins, lacking_ends}
 use Rattle.lists.proofs.Musts.{entry_long, named_here, not_named}
-use Prim.Native.Nat.{◌-◌}
-use native.Mathlib.Omega.{arith}
 use Rattle.lists.proofs.lacks.Goals as goal
 
 pub loop-i-init : goal.loop-i-init

@@ -1,7 +1,5 @@
-use Rattle.lists.proofs.Musts.{Lacking, lacking_begins, lacking_ends}
-use Rattle.lists.proofs.Musts.{entry_long, named_here, not_named}
+use Rattle.lists.proofs.Musts.{Lacking}
 use Prim.Native.Nat.{◌-◌}
-use native.Mathlib.Omega.{arith}
 use Rattle.lists.proofs.lacks.Given as goal
 
 abbrev pub invariant-loop-i : goal.invariant-loop-i

@@ -1,10 +1,5 @@
 use Rattle.lists.proofs.Steps.{part_fails, part_ends}
-use Rattle.lists.specs.Parts.{own}
-use Prim.Native.Nat.{◌+◌}
-use Rattle.laws.proofs.Scans.{Scanned, scan_begins, scan_goes_on}
-use lib.ListN.{length, get_or}
-use Prim.Native.Nat.{ℕ, ◌-◌}
-use native.Mathlib.Omega.{arith}
+use Rattle.laws.proofs.Scans.{scan_begins, scan_goes_on}
 use borrow.Author.Tests.{not-true, not-false}
 use Rattle.lists.proofs.list_fits.Goals as goal
 

@@ -1,6 +1,4 @@
-use Rattle.lists.proofs.Steps.{Fitting, fitting_begins, fitting-more, fitting_fails, fitting_ends, end_behind, end_inside}
-use Prim.Native.Nat.{◌-◌}
-use native.Mathlib.Omega.{arith}
+use Rattle.lists.proofs.Steps.{fitting_begins, fitting-more, fitting_fails, fitting_ends, end_behind, end_inside}
 use borrow.Author.Tests.{not-true, not-false}
 use Rattle.lists.proofs.lists_fit.Goals as goal
 

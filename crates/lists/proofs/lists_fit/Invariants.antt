@@ -1,7 +1,5 @@
-use Rattle.lists.proofs.Steps.{Fitting, fitting_begins, fitting-more, fitting_fails, fitting_ends, end_behind, end_inside}
+use Rattle.lists.proofs.Steps.{Fitting}
 use Prim.Native.Nat.{◌-◌}
-use native.Mathlib.Omega.{arith}
-use borrow.Author.Tests.{not-true, not-false}
 use Rattle.lists.proofs.lists_fit.Given as goal
 
 abbrev pub invariant-loop-cell : goal.invariant-loop-cell

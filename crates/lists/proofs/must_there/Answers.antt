@@ -1,5 +1,4 @@
 use Rattle.lists.proofs.Musts.{not_asked, asked}
-use borrow.Author.Rules.{rules}
 use Rattle.lists.proofs.must_there.Goals as goal
 
 pub returns-then-says-ne1 : goal.returns-then-says-ne1

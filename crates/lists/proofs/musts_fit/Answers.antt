@@ -1,8 +1,5 @@
-use Rattle.lists.proofs.Musts.{Having, having_begins, having_more, having_fails, having_ends, kind_known}
+use Rattle.lists.proofs.Musts.{having_begins, having_more, having_fails, having_ends, kind_known}
 use Rattle.lists.proofs.Steps.{end_behind, end_inside}
-use lib.ListN.{length}
-use Prim.Native.Nat.{◌-◌}
-use native.Mathlib.Omega.{arith}
 use borrow.Author.Tests.{not-true, not-false}
 use Rattle.lists.proofs.musts_fit.Goals as goal
 

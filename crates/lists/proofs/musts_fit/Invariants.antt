@@ -1,9 +1,6 @@
-use Rattle.lists.proofs.Musts.{Having, having_begins, having_more, having_fails, having_ends, kind_known}
-use Rattle.lists.proofs.Steps.{end_behind, end_inside}
+use Rattle.lists.proofs.Musts.{Having}
 use lib.ListN.{length}
 use Prim.Native.Nat.{◌-◌}
-use native.Mathlib.Omega.{arith}
-use borrow.Author.Tests.{not-true, not-false}
 use Rattle.lists.proofs.musts_fit.Given as goal
 
 abbrev pub invariant-loop-cell : goal.invariant-loop-cell

@@ -1,6 +1,4 @@
-use Rattle.lists.proofs.Musts.{Asking, asking_begins, asking_more, musts_fails, musts_ends}
-use lib.ListN.{take, drop}
-use Prim.Native.Nat.{◌-◌}
+use Rattle.lists.proofs.Musts.{asking_begins, asking_more, musts_fails, musts_ends}
 use native.Mathlib.Omega.{arith}
 use borrow.Author.Tests.{not-true, not-false}
 use Rattle.lists.proofs.musts_there.Goals as goal

@@ -1,8 +1,6 @@
-use Rattle.lists.proofs.Musts.{Asking, asking_begins, asking_more, musts_fails, musts_ends}
+use Rattle.lists.proofs.Musts.{Asking}
 use lib.ListN.{take, drop}
 use Prim.Native.Nat.{◌-◌}
-use native.Mathlib.Omega.{arith}
-use borrow.Author.Tests.{not-true, not-false}
 use Rattle.lists.proofs.musts_there.Given as goal
 
 abbrev pub invariant-loop-name : goal.invariant-loop-name

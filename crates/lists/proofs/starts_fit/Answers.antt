@@ -1,5 +1,4 @@
 use Rattle.lists.proofs.Steps.{first_off, last_off, laid_by}
-use borrow.Author.Rules.{rules}
 use Rattle.lists.proofs.starts_fit.Goals as goal
 
 pub returns-then-first-ne0 : goal.returns-then-first-ne0

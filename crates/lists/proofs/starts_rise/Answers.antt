@@ -1,11 +1,6 @@
 use Rattle.lists.proofs.Steps.{falls, rises}
 use Rattle.laws.proofs.Scans.{scan_passes, scan_stops}
-use Prim.Native.Nat.{◌+◌}
-use Rattle.laws.specs.Tests.{◌≤?◌}
-use Rattle.laws.proofs.Scans.{Scanned, scan_begins, scan_ends}
-use lib.ListN.{get_or}
-use Prim.Native.Nat.{ℕ, ◌-◌}
-use native.Mathlib.Omega.{arith}
+use Rattle.laws.proofs.Scans.{scan_begins, scan_ends}
 use Rattle.lists.proofs.starts_rise.Goals as goal
 
 pub loop-cell-init : goal.loop-cell-init

@@ -1,11 +1,8 @@
-use Rattle.lists.proofs.Steps.{falls, rises}
-use Rattle.laws.proofs.Scans.{scan_passes, scan_stops}
 use Prim.Native.Nat.{◌+◌}
 use Rattle.laws.specs.Tests.{◌≤?◌}
-use Rattle.laws.proofs.Scans.{Scanned, scan_begins, scan_ends}
+use Rattle.laws.proofs.Scans.{Scanned}
 use lib.ListN.{get_or}
 use Prim.Native.Nat.{ℕ, ◌-◌}
-use native.Mathlib.Omega.{arith}
 use Rattle.lists.proofs.starts_rise.Given as goal
 
 abbrev pub invariant-loop-cell : goal.invariant-loop-cell

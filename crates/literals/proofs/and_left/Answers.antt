@@ -1,5 +1,4 @@
 use Rattle.literals.proofs.Settling.{left_by}
-use borrow.Author.Rules.{rules}
 use Rattle.literals.proofs.and_left.Goals as goal
 
 pub returns : goal.returns

@@ -1,5 +1,4 @@
 use Rattle.literals.proofs.Settling.{flop_made_lem}
-use borrow.Author.Rules.{rules}
 use Rattle.literals.proofs.flop_left.Goals as goal
 
 pub returns : goal.returns

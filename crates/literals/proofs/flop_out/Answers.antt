@@ -1,6 +1,5 @@
 use Rattle.literals.proofs.Settling.{flop_left}
 use native.Mathlib.Omega.{arith}
-use borrow.Author.Rules.{rules}
 use Rattle.literals.proofs.flop_out.Goals as goal
 
 pub flop_left-requires : goal.flop_left-requires

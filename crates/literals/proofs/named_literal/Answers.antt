@@ -1,7 +1,6 @@
 use Rattle.literals.proofs.Settling.{entry_below, literal_there, literal-none}
 use Rattle.roles.proofs.Fitting.{laid}
 use native.Mathlib.Omega.{arith}
-use borrow.Author.Rules.{rules}
 use Rattle.literals.proofs.named_literal.Goals as goal
 
 pub cell_entry-entry-requires : goal.cell_entry-entry-requires

@@ -1,5 +1,4 @@
 use Rattle.literals.proofs.Settling.{operand_is}
-use borrow.Author.Rules.{rules}
 use Rattle.literals.proofs.operand.Goals as goal
 
 pub returns : goal.returns

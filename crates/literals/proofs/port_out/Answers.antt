@@ -1,5 +1,4 @@
 use Rattle.literals.proofs.Settling.{port_left}
-use borrow.Author.Rules.{rules}
 use Rattle.literals.proofs.port_out.Goals as goal
 
 pub returns : goal.returns

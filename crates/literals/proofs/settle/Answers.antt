@@ -1,6 +1,5 @@
 use Rattle.literals.proofs.Settling.{settle_unfit, settle_fits}
 use borrow.Author.Tests.{not-true, not-false}
-use borrow.Author.Rules.{rules}
 use Rattle.literals.proofs.settle.Goals as goal
 
 pub returns-then-not-step : goal.returns-then-not-step

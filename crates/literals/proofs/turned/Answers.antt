@@ -1,5 +1,4 @@
 use Rattle.literals.proofs.Settling.{turned_so, turned_not}
-use borrow.Author.Rules.{rules}
 use Rattle.literals.proofs.turned.Goals as goal
 
 pub returns-then-x : goal.returns-then-x

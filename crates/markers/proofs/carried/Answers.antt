@@ -1,5 +1,4 @@
 use Rattle.markers.proofs.Carrying.{wire_inside, port_inside, inv_inside, buf_inside, carry_wire, carry_port, carry_inv, carry_buf}
-use borrow.Author.Rules.{rules}
 use Rattle.markers.proofs.carried.Goals as goal
 
 pub at-requires : goal.at-requires

@@ -1,10 +1,6 @@
-use Rattle.roles.specs.Reading.{tables}
 use native.Mathlib.Omega.{arith}
-use lib.ListN.{length}
-use mathlib.Core.Path.{◌≡◌}
-use Prim.Native.Nat.{ℕ, ◌+◌, ◌-◌, ◌*◌}
 use borrow.Author.Rules.{rules}
-use Rattle.markers.proofs.Marking.{Marking, marking_begins, event_inside, marking_goes_on, marking_ends}
+use Rattle.markers.proofs.Marking.{marking_begins, event_inside, marking_goes_on, marking_ends}
 use Rattle.markers.proofs.mark_all.Goals as goal
 
 pub loop-i-init : goal.loop-i-init

@@ -1,10 +1,8 @@
 use Rattle.roles.specs.Reading.{tables}
-use native.Mathlib.Omega.{arith}
 use lib.ListN.{length}
 use mathlib.Core.Path.{◌≡◌}
-use Prim.Native.Nat.{ℕ, ◌+◌, ◌-◌, ◌*◌}
-use borrow.Author.Rules.{rules}
-use Rattle.markers.proofs.Marking.{Marking, marking_begins, event_inside, marking_goes_on, marking_ends}
+use Prim.Native.Nat.{◌-◌, ◌*◌}
+use Rattle.markers.proofs.Marking.{Marking}
 use Rattle.markers.proofs.mark_all.Given as goal
 
 abbrev pub invariant-loop-i : goal.invariant-loop-i

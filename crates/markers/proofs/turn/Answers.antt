@@ -1,5 +1,4 @@
 use Rattle.markers.proofs.Carrying.{turn_none}
-use borrow.Author.Rules.{rules}
 use Rattle.markers.proofs.turn.Goals as goal
 
 pub returns : goal.returns

@@ -1,9 +1,5 @@
-use Rattle.marks.proofs.Picking.{Picking, always, pick_begins, each_goes_on, each_fails, each_ends, places}
-use lib.ListN.{length, get_or}
-use Prim.Native.Nat.{ℕ, ◌-◌}
+use Rattle.marks.proofs.Picking.{pick_begins, each_goes_on, each_fails, each_ends, places}
 use borrow.Author.Tests.{not-true, not-false}
-use native.Mathlib.Omega.{arith}
-use borrow.Author.Rules.{rules}
 use Rattle.marks.proofs.mark_list.Goals as goal
 
 pub loop-i-init : goal.loop-i-init

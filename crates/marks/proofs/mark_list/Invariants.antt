@@ -1,9 +1,6 @@
-use Rattle.marks.proofs.Picking.{Picking, always, pick_begins, each_goes_on, each_fails, each_ends, places}
+use Rattle.marks.proofs.Picking.{Picking, always}
 use lib.ListN.{length, get_or}
 use Prim.Native.Nat.{ℕ, ◌-◌}
-use borrow.Author.Tests.{not-true, not-false}
-use native.Mathlib.Omega.{arith}
-use borrow.Author.Rules.{rules}
 use Rattle.marks.proofs.mark_list.Given as goal
 
 abbrev pub invariant-loop-i : goal.invariant-loop-i

@@ -1,6 +1,5 @@
 use Rattle.marks.specs.Marking.{joined, outside, repeated}
 use mathlib.Core.Path.{refl}
-use borrow.Author.Rules.{rules}
 use Rattle.marks.proofs.mark_new.Goals as goal
 
 pub returns-then-limit-i : goal.returns-then-limit-i

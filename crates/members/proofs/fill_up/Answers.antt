@@ -1,9 +1,4 @@
-use Rattle.members.proofs.Loops.{FillingUp, fill_begins, fill_goes_on, fill_ends}
-use lib.ListN.{length, get_or}
-use Prim.Native.Nat.{ℕ, ◌+◌, ◌-◌, ◌*◌, ◌≤◌, ◌<◌}
-use mathlib.Core.Path.{◌≡◌}
-use borrow.Author.Tests.{not-true, not-false}
-use borrow.Author.Rules.{rules}
+use Rattle.members.proofs.Loops.{fill_begins, fill_goes_on, fill_ends}
 use native.Mathlib.Omega.{arith}
 use Rattle.members.proofs.fill_up.Goals as goal
 

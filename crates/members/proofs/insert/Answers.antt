@@ -1,10 +1,4 @@
 use Rattle.members.proofs.Changes.{insert_again, insert_joins}
-use lib.ListN.{length, get_or, length-set}
-use Prim.Native.Nat.{ℕ, ◌+◌, ◌-◌, ◌*◌, ◌≤◌, ◌<◌}
-use mathlib.Core.Path.{◌≡◌}
-use borrow.Author.Tests.{not-true, not-false}
-use native.Mathlib.Omega.{arith}
-use borrow.Author.Rules.{rules}
 use Rattle.members.proofs.insert.Goals as goal
 
 pub returns-then-place-ne0 : goal.returns-then-place-ne0

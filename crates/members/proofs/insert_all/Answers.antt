@@ -1,11 +1,5 @@
 use Rattle.laws.proofs.Words.{word_below}
-use Rattle.members.proofs.Loops.{Inserting, insert_begins, insert_goes_on, insert_ends}
-use lib.ListN.{length, get_or}
-use Prim.Native.Nat.{ℕ, ◌+◌, ◌-◌, ◌*◌, ◌≤◌, ◌<◌}
-use mathlib.Core.Path.{◌≡◌}
-use borrow.Author.Tests.{not-true, not-false}
-use borrow.Author.Rules.{rules}
-use native.Mathlib.Omega.{arith}
+use Rattle.members.proofs.Loops.{insert_begins, insert_goes_on, insert_ends}
 use Rattle.members.proofs.insert_all.Goals as goal
 
 pub loop-i-init : goal.loop-i-init

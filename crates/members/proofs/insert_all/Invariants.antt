@@ -1,11 +1,6 @@
-use Rattle.laws.proofs.Words.{word_below}
-use Rattle.members.proofs.Loops.{Inserting, insert_begins, insert_goes_on, insert_ends}
-use lib.ListN.{length, get_or}
-use Prim.Native.Nat.{ℕ, ◌+◌, ◌-◌, ◌*◌, ◌≤◌, ◌<◌}
-use mathlib.Core.Path.{◌≡◌}
-use borrow.Author.Tests.{not-true, not-false}
-use borrow.Author.Rules.{rules}
-use native.Mathlib.Omega.{arith}
+use Rattle.members.proofs.Loops.{Inserting}
+use lib.ListN.{length}
+use Prim.Native.Nat.{◌-◌}
 use Rattle.members.proofs.insert_all.Given as goal
 
 abbrev pub invariant-loop-i : goal.invariant-loop-i

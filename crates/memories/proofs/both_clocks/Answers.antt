@@ -1,6 +1,5 @@
 use borrow.Author.Tests.{not-true, not-false}
 use Rattle.memories.proofs.Remembering.{read_named, write_named, clocks_stops, clocks_going, clocks_made_lem}
-use borrow.Author.Rules.{rules}
 use Rattle.memories.proofs.both_clocks.Goals as goal
 
 pub clock_activity-one-requires : goal.clock_activity-one-requires

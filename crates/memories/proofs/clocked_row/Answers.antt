@@ -2,7 +2,6 @@ use native.Mathlib.Omega.{arith}
 use mathlib.Core.Path.{refl}
 use lib.ListN.{length-set}
 use Rattle.memories.proofs.Remembering.{row_done}
-use borrow.Author.Rules.{rules}
 use Rattle.memories.proofs.clocked_row.Goals as goal
 
 pub write_bits-requires : goal.write_bits-requires

@@ -1,7 +1,6 @@
 use mathlib.Core.Path.{refl}
 use Rattle.flops.proofs.Flopping.{known}
 use Rattle.memories.proofs.Remembering.{begun_room, begun_done, fresh_short, fresh_done, going_more}
-use borrow.Author.Rules.{rules}
 use Rattle.memories.proofs.memory.Goals as goal
 
 pub ram_number-number-requires : goal.ram_number-number-requires

@@ -1,7 +1,6 @@
 use native.Mathlib.Omega.{arith}
 use Rattle.roles.proofs.Fitting.{laid}
 use Rattle.memories.proofs.Remembering.{clocks_so, clocks-turned}
-use borrow.Author.Rules.{rules}
 use Rattle.memories.proofs.ram_clocks.Goals as goal
 
 pub reads_first-so-requires : goal.reads_first-so-requires

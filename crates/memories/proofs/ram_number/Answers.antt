@@ -1,5 +1,4 @@
 use Rattle.memories.proofs.Remembering.{number_place, number-none, number-told}
-use borrow.Author.Rules.{rules}
 use Rattle.memories.proofs.ram_number.Goals as goal
 
 pub returns-then-start-end : goal.returns-then-start-end

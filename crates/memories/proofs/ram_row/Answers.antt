@@ -1,6 +1,5 @@
 use borrow.Author.Tests.{not-true, not-false}
 use Rattle.memories.proofs.Remembering.{ram_stops, ram_ready, ram_known, ram_then}
-use borrow.Author.Rules.{rules}
 use Rattle.memories.proofs.ram_row.Goals as goal
 
 pub returns-then-not-clocks : goal.returns-then-not-clocks

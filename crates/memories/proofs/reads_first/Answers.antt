@@ -1,5 +1,4 @@
 use Rattle.memories.proofs.Remembering.{name_place, name_told, name_none}
-use borrow.Author.Rules.{rules}
 use Rattle.memories.proofs.reads_first.Goals as goal
 
 pub pin_word-name-requires : goal.pin_word-name-requires

@@ -1,10 +1,8 @@
-use Prim.Native.Nat.{◌-◌}
-use lib.ListN.{length}
 use borrow.Author.Rules.{rules}
-use mathlib.Core.Path.{◌≡◌, refl}
+use mathlib.Core.Path.{refl}
 use native.Mathlib.Omega.{arith}
 use borrow.Author.Tests.{not-true, not-false}
-use Rattle.memories.proofs.Remembering.{Enabling, enabling_begins, enabling_ends, enabling_goes_on, enabling_fails}
+use Rattle.memories.proofs.Remembering.{enabling_begins, enabling_ends, enabling_goes_on, enabling_fails}
 use Rattle.memories.proofs.write_bits.Goals as goal
 
 pub loop-i-init : goal.loop-i-init

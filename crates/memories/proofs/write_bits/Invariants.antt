@@ -1,10 +1,7 @@
 use Prim.Native.Nat.{◌-◌}
 use lib.ListN.{length}
-use borrow.Author.Rules.{rules}
-use mathlib.Core.Path.{◌≡◌, refl}
-use native.Mathlib.Omega.{arith}
-use borrow.Author.Tests.{not-true, not-false}
-use Rattle.memories.proofs.Remembering.{Enabling, enabling_begins, enabling_ends, enabling_goes_on, enabling_fails}
+use mathlib.Core.Path.{◌≡◌}
+use Rattle.memories.proofs.Remembering.{Enabling}
 use Rattle.memories.proofs.write_bits.Given as goal
 
 abbrev pub invariant-loop-i : goal.invariant-loop-i

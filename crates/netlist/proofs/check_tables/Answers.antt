@@ -1,5 +1,4 @@
 use Rattle.netlist.proofs.Whole.{zeros_self, checked}
-use borrow.Author.Rules.{rules}
 use Rattle.netlist.proofs.check_tables.Goals as goal
 
 pub netlist_number-number-requires : goal.netlist_number-number-requires

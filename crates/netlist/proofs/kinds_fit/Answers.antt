@@ -1,10 +1,5 @@
 use borrow.Author.Tests.{not-true, not-false}
-use Rattle.netlist.specs.Tables.{kind_fits}
-use lib.ListN.{length, get_or}
-use Prim.Native.Nat.{ℕ, ◌-◌}
-use native.Mathlib.Omega.{arith}
-use Rattle.laws.proofs.Scans.{Scanned, scan_begins, scan_goes_on, scan_fails, scan_ends}
-use borrow.Author.Rules.{rules}
+use Rattle.laws.proofs.Scans.{scan_begins, scan_goes_on, scan_fails, scan_ends}
 use Rattle.netlist.proofs.kinds_fit.Goals as goal
 
 pub loop-cell-init : goal.loop-cell-init

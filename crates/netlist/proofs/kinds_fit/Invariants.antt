@@ -1,10 +1,7 @@
-use borrow.Author.Tests.{not-true, not-false}
 use Rattle.netlist.specs.Tables.{kind_fits}
 use lib.ListN.{length, get_or}
 use Prim.Native.Nat.{ℕ, ◌-◌}
-use native.Mathlib.Omega.{arith}
-use Rattle.laws.proofs.Scans.{Scanned, scan_begins, scan_goes_on, scan_fails, scan_ends}
-use borrow.Author.Rules.{rules}
+use Rattle.laws.proofs.Scans.{Scanned}
 use Rattle.netlist.proofs.kinds_fit.Given as goal
 
 abbrev pub invariant-loop-cell : goal.invariant-loop-cell

@@ -1,6 +1,5 @@
 use Rattle.netlist.proofs.Steps.{starts_fail, ranges_fail, lists_fail, lists_told, now_starts, clear_first}
 use borrow.Author.Tests.{not-true, not-false}
-use borrow.Author.Rules.{rules}
 use Rattle.netlist.proofs.lists_right.Goals as goal
 
 pub returns-then-not-first : goal.returns-then-not-first

@@ -1,5 +1,4 @@
 use Rattle.netlist.proofs.Steps.{kinds_off, starts_off, list_off, pins_off, long_by_lem}
-use borrow.Author.Rules.{rules}
 use Rattle.netlist.proofs.netlist_long.Goals as goal
 
 pub returns-then-kinds-cells : goal.returns-then-kinds-cells

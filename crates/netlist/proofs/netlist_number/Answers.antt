@@ -1,6 +1,5 @@
 use Rattle.netlist.proofs.Whole.{now_long, give_1, give_2, give_2_room, give_rest}
 use borrow.Author.Tests.{not-true, not-false}
-use borrow.Author.Rules.{rules}
 use Rattle.netlist.proofs.netlist_number.Goals as goal
 
 pub returns-then-not-within : goal.returns-then-not-within

@@ -1,10 +1,5 @@
 use Rattle.netlist.proofs.Kind.{latch_here, latch_not}
-use Rattle.laws.specs.Tests.{◌==◌}
-use lib.ListN.{length, get_or}
-use mathlib.Core.Bool.{not}
-use Prim.Native.Nat.{ℕ, ◌-◌}
-use native.Mathlib.Omega.{arith}
-use Rattle.laws.proofs.Scans.{Scanned, scan_begins, scan_passes, scan_stops, scan_ends}
+use Rattle.laws.proofs.Scans.{scan_begins, scan_passes, scan_stops, scan_ends}
 use Rattle.netlist.proofs.no_latch.Goals as goal
 
 pub loop-cell-init : goal.loop-cell-init

@@ -1,10 +1,8 @@
-use Rattle.netlist.proofs.Kind.{latch_here, latch_not}
-use Rattle.laws.specs.Tests.{◌==◌}
+use Rattle.std.specs.Prelude.{◌==◌}
 use lib.ListN.{length, get_or}
 use mathlib.Core.Bool.{not}
 use Prim.Native.Nat.{ℕ, ◌-◌}
-use native.Mathlib.Omega.{arith}
-use Rattle.laws.proofs.Scans.{Scanned, scan_begins, scan_passes, scan_stops, scan_ends}
+use Rattle.laws.proofs.Scans.{Scanned}
 use Rattle.netlist.proofs.no_latch.Given as goal
 
 abbrev pub invariant-loop-cell : goal.invariant-loop-cell

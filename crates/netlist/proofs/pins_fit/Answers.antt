@@ -1,6 +1,5 @@
 use Rattle.netlist.proofs.Steps.{lists_refuse, now_listed, still_clear, pins_tell}
 use borrow.Author.Tests.{not-true, not-false}
-use borrow.Author.Rules.{rules}
 use Rattle.netlist.proofs.pins_fit.Goals as goal
 
 pub returns-then-not-first : goal.returns-then-not-first

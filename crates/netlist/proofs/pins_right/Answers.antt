@@ -1,6 +1,5 @@
 use Rattle.netlist.proofs.Steps.{slots_fail, twice_fails, musts_tell, now_sorted}
 use borrow.Author.Tests.{not-true, not-false}
-use borrow.Author.Rules.{rules}
 use Rattle.netlist.proofs.pins_right.Goals as goal
 
 pub returns-then-not-first : goal.returns-then-not-first

@@ -1,6 +1,5 @@
 use Rattle.netlist.proofs.Numbers.{now_kinded, now_netted, give_3, give_4, give_5, give_6, give_0}
 use borrow.Author.Tests.{not-true, not-false}
-use borrow.Author.Rules.{rules}
 use Rattle.netlist.proofs.tables_number.Goals as goal
 
 pub returns-then-not-first : goal.returns-then-not-first

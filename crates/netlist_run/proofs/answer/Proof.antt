@@ -4,11 +4,6 @@ use mathlib.Core.Path.{sym}
 use borrow.Author.Rules.{rules}
 use Rattle.netlist_run.proofs.answer.Statement.{statement}
 use Rattle.netlist_run.proofs.answer.Tie as tie
-use Rattle.netlist_run.proofs.answer.Reads as reads
-use Rattle.netlist_run.proofs.answer.Lts as lts
-use Rattle.netlist_run.proofs.asked_cleanly.Reads as asked-cleanly-reads
-use Rattle.netlist_run.proofs.at_most.Reads as at-most-reads
-use Rattle.netlist_run.proofs.full.Reads as full-reads
 
 -- src/main.rt:146:20
 full-requires : tie.Need-full-requires

@@ -1,13 +1,9 @@
 use borrow.Author.Rules.{rules}
 use native.Mathlib.Omega.{arith}
-use Prim.Native.Nat.{ℕ, ◌≤◌, ◌-◌}
+use Prim.Native.Nat.{◌-◌}
 use lib.ListN.{length}
 use Rattle.netlist_run.proofs.number.Statement.{statement}
 use Rattle.netlist_run.proofs.number.Tie as tie
-use Rattle.netlist_run.proofs.number.Reads as reads
-use Rattle.netlist_run.proofs.number.Lts as lts
-use Rattle.netlist_run.proofs.digit.Reads as digit-reads
-use Rattle.netlist_run.proofs.low.Reads as low_reads
 
 abbrev invariant-loop : tie.invariant-loop
 invariant-loop text at i₀ value₀ i value = Unit {0}

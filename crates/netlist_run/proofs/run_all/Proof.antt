@@ -1,12 +1,8 @@
 use borrow.Author.Rules.{rules}
 use native.Mathlib.Omega.{arith}
-use Prim.Native.Nat.{ℕ, ◌≤◌, ◌-◌}
+use Prim.Native.Nat.{◌-◌}
 use Rattle.netlist_run.proofs.run_all.Statement.{statement}
 use Rattle.netlist_run.proofs.run_all.Tie as tie
-use Rattle.netlist_run.proofs.run_all.Reads as reads
-use Rattle.netlist_run.proofs.run_all.Lts as lts
-use Rattle.netlist_run.proofs.number.Reads as number-reads
-use Rattle.netlist_run.proofs.run_record.Reads as run-record-reads
 
 abbrev invariant-loop : tie.invariant-loop
 invariant-loop text nine₀ ten₀ base₀ n next₀ i₀ nine ten base next i = Unit {0}

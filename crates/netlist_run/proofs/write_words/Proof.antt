@@ -1,15 +1,10 @@
 use borrow.Author.Rules.{rules}
 use native.Mathlib.Omega.{arith}
-use Prim.Native.Nat.{ℕ, ◌≤◌, ◌-◌}
+use Prim.Native.Nat.{◌≤◌, ◌-◌}
 use mathlib.Core.Path.{◌≡◌}
 use lib.ListN.{length}
 use Rattle.netlist_run.proofs.write_words.Statement.{statement}
 use Rattle.netlist_run.proofs.write_words.Tie as tie
-use Rattle.netlist_run.proofs.write_words.Reads as reads
-use Rattle.netlist_run.proofs.write_words.Lts as lts
-use Rattle.netlist_run.proofs.at_most.Reads as at-most-reads
-use Rattle.netlist_run.proofs.number.Reads as number-reads
-use Rattle.netlist_run.proofs.put.Reads as put_reads
 
 abbrev invariant-loop : tie.invariant-loop
 invariant-loop text at words₀ place n next₀ i₀ words next i = (place ≤ 4128) × (n ≤ 4128) × (length words ≡ length words₀)

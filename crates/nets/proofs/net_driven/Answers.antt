@@ -1,5 +1,4 @@
 use Rattle.nets.proofs.Steps.{is_constant, no_pin, no_driver, driven_by}
-use borrow.Author.Rules.{rules}
 use Rattle.nets.proofs.net_driven.Goals as goal
 
 pub returns-then-driver-lt2 : goal.returns-then-driver-lt2

@@ -1,8 +1,4 @@
-use Rattle.nets.specs.Driven.{net_driven}
-use Rattle.laws.proofs.Scans.{Scanned, scan_begins, scan_goes_on, scan_fails, scan_ends}
-use lib.ListN.{length}
-use Prim.Native.Nat.{◌-◌}
-use native.Mathlib.Omega.{arith}
+use Rattle.laws.proofs.Scans.{scan_begins, scan_goes_on, scan_fails, scan_ends}
 use borrow.Author.Tests.{not-true, not-false}
 use Rattle.nets.proofs.nets_driven.Goals as goal
 

@@ -1,9 +1,7 @@
 use Rattle.nets.specs.Driven.{net_driven}
-use Rattle.laws.proofs.Scans.{Scanned, scan_begins, scan_goes_on, scan_fails, scan_ends}
+use Rattle.laws.proofs.Scans.{Scanned}
 use lib.ListN.{length}
 use Prim.Native.Nat.{◌-◌}
-use native.Mathlib.Omega.{arith}
-use borrow.Author.Tests.{not-true, not-false}
 use Rattle.nets.proofs.nets_driven.Given as goal
 
 abbrev pub invariant-loop-net : goal.invariant-loop-net

@@ -1,6 +1,5 @@
 use borrow.Author.Tests.{not-true, not-false}
 use Rattle.nets.proofs.Steps.{first_fails, first_passes}
-use borrow.Author.Rules.{rules}
 use Rattle.nets.proofs.nets_fit.Goals as goal
 
 pub returns-then-not-first : goal.returns-then-not-first

@@ -1,5 +1,4 @@
 use Rattle.nets.proofs.Steps.{going_in, going_out}
-use borrow.Author.Rules.{rules}
 use Rattle.nets.proofs.pin_drives.Goals as goal
 
 pub returns-then-direction-ne1 : goal.returns-then-direction-ne1

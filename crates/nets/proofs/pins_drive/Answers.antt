@@ -1,8 +1,5 @@
 use Rattle.nets.proofs.Steps.{pin_long, net_in}
-use Rattle.nets.specs.Driven.{driving}
-use Rattle.laws.proofs.Scans.{Scanned, scan_begins, scan_goes_on, scan_fails, scan_ends}
-use Prim.Native.Nat.{◌-◌}
-use native.Mathlib.Omega.{arith}
+use Rattle.laws.proofs.Scans.{scan_begins, scan_goes_on, scan_fails, scan_ends}
 use borrow.Author.Tests.{not-true, not-false}
 use Rattle.nets.proofs.pins_drive.Goals as goal
 

@@ -1,9 +1,6 @@
-use Rattle.nets.proofs.Steps.{pin_long, net_in}
 use Rattle.nets.specs.Driven.{driving}
-use Rattle.laws.proofs.Scans.{Scanned, scan_begins, scan_goes_on, scan_fails, scan_ends}
+use Rattle.laws.proofs.Scans.{Scanned}
 use Prim.Native.Nat.{◌-◌}
-use native.Mathlib.Omega.{arith}
-use borrow.Author.Tests.{not-true, not-false}
 use Rattle.nets.proofs.pins_drive.Given as goal
 
 abbrev pub invariant-loop-p : goal.invariant-loop-p

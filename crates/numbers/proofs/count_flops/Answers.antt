@@ -1,5 +1,4 @@
 use Rattle.numbers.proofs.Ways.{flops_same, flops_full, flops_more}
-use borrow.Author.Rules.{rules}
 use Rattle.numbers.proofs.count_flops.Goals as goal
 
 pub returns-then-count-t : goal.returns-then-count-t

@@ -1,5 +1,4 @@
 use Rattle.numbers.proofs.Ways.{rams_same, rams_full, rams_more}
-use borrow.Author.Rules.{rules}
 use Rattle.numbers.proofs.count_rams.Goals as goal
 
 pub returns-then-count-t : goal.returns-then-count-t

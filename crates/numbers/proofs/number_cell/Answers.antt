@@ -1,5 +1,4 @@
 use Rattle.numbers.proofs.Ways.{old_counted, old_numbered, new_counted, new_numbered}
-use borrow.Author.Rules.{rules}
 use Rattle.numbers.proofs.number_cell.Goals as goal
 
 pub returns-then-old-ne0 : goal.returns-then-old-ne0

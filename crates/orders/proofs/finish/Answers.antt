@@ -1,11 +1,6 @@
-use Rattle.orders.specs.State.{goes_to}
-use Rattle.roles.specs.Reading.{tables}
 use native.Mathlib.Omega.{arith}
-use lib.ListN.{length}
-use mathlib.Core.Path.{◌≡◌}
-use Prim.Native.Nat.{ℕ, ◌+◌, ◌-◌, ◌*◌}
 use borrow.Author.Rules.{rules}
-use Rattle.orders.proofs.Runs.{Running, run_begins, run_ends, run_finds, run_goes_on, run_falls}
+use Rattle.orders.proofs.Runs.{run_begins, run_ends, run_finds, run_goes_on, run_falls}
 use Rattle.orders.proofs.finish.Goals as goal
 
 pub loop-h-init : goal.loop-h-init

@@ -1,11 +1,9 @@
 use Rattle.orders.specs.State.{goes_to}
 use Rattle.roles.specs.Reading.{tables}
-use native.Mathlib.Omega.{arith}
 use lib.ListN.{length}
 use mathlib.Core.Path.{◌≡◌}
-use Prim.Native.Nat.{ℕ, ◌+◌, ◌-◌, ◌*◌}
-use borrow.Author.Rules.{rules}
-use Rattle.orders.proofs.Runs.{Running, run_begins, run_ends, run_finds, run_goes_on, run_falls}
+use Prim.Native.Nat.{◌-◌, ◌*◌}
+use Rattle.orders.proofs.Runs.{Running}
 use Rattle.orders.proofs.finish.Given as goal
 
 abbrev pub invariant-loop-h : goal.invariant-loop-h

@@ -1,10 +1,4 @@
-use Rattle.orders.specs.State.{goes_to}
-use Rattle.roles.specs.Reading.{tables}
-use native.Mathlib.Omega.{arith}
-use lib.ListN.{length}
-use Prim.Native.Nat.{ℕ, ◌+◌, ◌-◌}
-use borrow.Author.Rules.{rules}
-use Rattle.orders.proofs.Looking.{Looking, looking_begins, looking_falls, looking_goes_on, looking_ends}
+use Rattle.orders.proofs.Looking.{looking_begins, looking_falls, looking_goes_on, looking_ends}
 use Rattle.orders.proofs.look.Goals as goal
 
 pub loop-tag-init : goal.loop-tag-init

@@ -1,10 +1,8 @@
 use Rattle.orders.specs.State.{goes_to}
 use Rattle.roles.specs.Reading.{tables}
-use native.Mathlib.Omega.{arith}
 use lib.ListN.{length}
-use Prim.Native.Nat.{ℕ, ◌+◌, ◌-◌}
-use borrow.Author.Rules.{rules}
-use Rattle.orders.proofs.Looking.{Looking, looking_begins, looking_falls, looking_goes_on, looking_ends}
+use Prim.Native.Nat.{◌+◌, ◌-◌}
+use Rattle.orders.proofs.Looking.{Looking}
 use Rattle.orders.proofs.look.Given as goal
 
 abbrev pub invariant-loop-tag : goal.invariant-loop-tag

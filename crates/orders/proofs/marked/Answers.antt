@@ -1,5 +1,4 @@
 use Rattle.orders.proofs.Looking.{mark-none, mark_open, mark-left}
-use borrow.Author.Rules.{rules}
 use Rattle.orders.proofs.marked.Goals as goal
 
 pub returns-then-mark-eq0 : goal.returns-then-mark-eq0

@@ -1,5 +1,4 @@
 use Rattle.orders.proofs.Looking.{probe_pin, probe_none, probe_inside}
-use borrow.Author.Rules.{rules}
 use Rattle.orders.proofs.probe.Goals as goal
 
 pub marked-requires : goal.marked-requires

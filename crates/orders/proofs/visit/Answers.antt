@@ -1,5 +1,4 @@
 use Prim.Native.Nat.{◌*◌, ◌<◌}
-use mathlib.Core.Path.{◌∙◌}
 use lib.ListN.{length}
 use Rattle.orders.proofs.Runs.{visit_room}
 use lib.ListN.{length-set}

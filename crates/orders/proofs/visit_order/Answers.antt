@@ -1,11 +1,6 @@
-use Rattle.orders.specs.State.{goes_to}
-use Rattle.roles.specs.Reading.{tables}
 use native.Mathlib.Omega.{arith}
-use lib.ListN.{length}
-use mathlib.Core.Path.{◌≡◌}
-use Prim.Native.Nat.{ℕ, ◌+◌, ◌-◌, ◌*◌}
 use borrow.Author.Rules.{rules}
-use Rattle.orders.proofs.Orders.{GoingThrough, through_begins, through_goes_on, through_finds, through_ends}
+use Rattle.orders.proofs.Orders.{through_begins, through_goes_on, through_finds, through_ends}
 use Rattle.orders.proofs.visit_order.Goals as goal
 
 pub loop-i-init : goal.loop-i-init

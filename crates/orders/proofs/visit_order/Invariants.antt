@@ -1,11 +1,9 @@
 use Rattle.orders.specs.State.{goes_to}
 use Rattle.roles.specs.Reading.{tables}
-use native.Mathlib.Omega.{arith}
 use lib.ListN.{length}
 use mathlib.Core.Path.{◌≡◌}
-use Prim.Native.Nat.{ℕ, ◌+◌, ◌-◌, ◌*◌}
-use borrow.Author.Rules.{rules}
-use Rattle.orders.proofs.Orders.{GoingThrough, through_begins, through_goes_on, through_finds, through_ends}
+use Prim.Native.Nat.{◌-◌}
+use Rattle.orders.proofs.Orders.{GoingThrough}
 use Rattle.orders.proofs.visit_order.Given as goal
 
 abbrev pub invariant-loop-i : goal.invariant-loop-i

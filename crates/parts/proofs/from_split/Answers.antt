@@ -1,10 +1,4 @@
 use Rattle.parts.proofs.Entry.{work_zeroed, split_early, split_parts, split_late}
-use lib.ListN.{length, get_or}
-use Prim.Native.Nat.{ℕ, ◌+◌, ◌-◌, ◌*◌, ◌≤◌, ◌<◌}
-use mathlib.Core.Path.{◌≡◌, ◌∙◌}
-use borrow.Author.Tests.{not-true, not-false}
-use native.Mathlib.Omega.{arith}
-use borrow.Author.Rules.{rules}
 use Rattle.parts.proofs.from_split.Goals as goal
 
 pub graph_number-k-requires : goal.graph_number-k-requires

@@ -1,10 +1,4 @@
 use Rattle.picks.proofs.Lows.{low-none, low-one}
-use lib.ListN.{length, get_or}
-use Prim.Native.Nat.{ℕ, ◌+◌, ◌-◌, ◌*◌, ◌≤◌, ◌<◌}
-use mathlib.Core.Path.{◌≡◌}
-use borrow.Author.Tests.{not-true, not-false}
-use native.Mathlib.Omega.{arith}
-use borrow.Author.Rules.{rules}
 use Rattle.picks.proofs.low_input.Goals as goal
 
 pub returns-then-p-eq0 : goal.returns-then-p-eq0

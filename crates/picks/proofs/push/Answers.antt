@@ -1,10 +1,4 @@
 use Rattle.picks.proofs.Pushes.{push_full, push_one}
-use lib.ListN.{length, get_or}
-use Prim.Native.Nat.{ℕ, ◌+◌, ◌-◌, ◌*◌, ◌≤◌, ◌<◌}
-use mathlib.Core.Path.{◌≡◌}
-use borrow.Author.Tests.{not-true, not-false}
-use native.Mathlib.Omega.{arith}
-use borrow.Author.Rules.{rules}
 use Rattle.picks.proofs.push.Goals as goal
 
 pub returns-then-table-n : goal.returns-then-table-n

@@ -1,10 +1,5 @@
-use Rattle.picks.specs.Tables.{take_test}
-use Rattle.picks.proofs.Pushes.{PartTo, part_begins, part_open, part_goes_on, part_fails, part_ends, left_below, left-part}
-use lib.ListN.{length, get_or}
-use Prim.Native.Nat.{ℕ, ◌+◌, ◌-◌, ◌*◌, ◌≤◌, ◌<◌}
-use mathlib.Core.Path.{◌≡◌}
+use Rattle.picks.proofs.Pushes.{part_begins, part_open, part_goes_on, part_fails, part_ends, left_below, left-part}
 use borrow.Author.Tests.{not-true, not-false}
-use borrow.Author.Rules.{rules}
 use native.Mathlib.Omega.{arith}
 use Rattle.picks.proofs.take_all.Goals as goal
 

@@ -1,6 +1,5 @@
 use native.Mathlib.Omega.{arith}
 use Rattle.pins.proofs.Steps.{name_large, kind_in, allowed_by}
-use borrow.Author.Rules.{rules}
 use Rattle.pins.proofs.pin_allowed.Goals as goal
 
 pub returns-then-name-ge17 : goal.returns-then-name-ge17

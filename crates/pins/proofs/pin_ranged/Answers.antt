@@ -1,5 +1,4 @@
 use Rattle.pins.proofs.Steps.{cell_out, net_out, ranged_by}
-use borrow.Author.Rules.{rules}
 use Rattle.pins.proofs.pin_ranged.Goals as goal
 
 pub returns-then-cells-cell : goal.returns-then-cells-cell

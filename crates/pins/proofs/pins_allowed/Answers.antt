@@ -1,8 +1,5 @@
-use Rattle.pins.specs.Words.{slotted}
 use Rattle.pins.proofs.Steps.{held_at}
-use Rattle.laws.proofs.Scans.{Scanned, scan_begins, scan_goes_on, scan_fails, scan_ends}
-use Prim.Native.Nat.{◌-◌}
-use native.Mathlib.Omega.{arith}
+use Rattle.laws.proofs.Scans.{scan_begins, scan_goes_on, scan_fails, scan_ends}
 use borrow.Author.Tests.{not-true, not-false}
 use Rattle.pins.proofs.pins_allowed.Goals as goal
 

@@ -1,9 +1,6 @@
 use Rattle.pins.specs.Words.{slotted}
-use Rattle.pins.proofs.Steps.{held_at}
-use Rattle.laws.proofs.Scans.{Scanned, scan_begins, scan_goes_on, scan_fails, scan_ends}
+use Rattle.laws.proofs.Scans.{Scanned}
 use Prim.Native.Nat.{◌-◌}
-use native.Mathlib.Omega.{arith}
-use borrow.Author.Tests.{not-true, not-false}
 use Rattle.pins.proofs.pins_allowed.Given as goal
 
 abbrev pub invariant-loop-p : goal.invariant-loop-p

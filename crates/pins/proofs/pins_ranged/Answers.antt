@@ -1,7 +1,4 @@
-use Rattle.pins.specs.Words.{ranged}
-use Rattle.laws.proofs.Scans.{Scanned, scan_begins, scan_goes_on, scan_fails, scan_ends}
-use Prim.Native.Nat.{◌-◌}
-use native.Mathlib.Omega.{arith}
+use Rattle.laws.proofs.Scans.{scan_begins, scan_goes_on, scan_fails, scan_ends}
 use borrow.Author.Tests.{not-true, not-false}
 use Rattle.pins.proofs.pins_ranged.Goals as goal
 

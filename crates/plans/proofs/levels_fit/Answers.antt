@@ -1,7 +1,5 @@
 use Rattle.plans.proofs.Levels.{many_levels, high_level, many_rows, many_handed, levels_few}
-use Prim.Native.Nat.{◌-◌}
 use borrow.Author.Tests.{not-true, not-false}
-use borrow.Author.Rules.{rules}
 use Rattle.plans.proofs.levels_fit.Goals as goal
 
 pub returns-then-splits-gt64 : goal.returns-then-splits-gt64

@@ -1,7 +1,4 @@
-use Rattle.plans.proofs.Levels.{RisingTo, rise_begins, rise_fails, rise_goes_on, rise_ends}
-use lib.ListN.{length}
-use Prim.Native.Nat.{◌-◌}
-use native.Mathlib.Omega.{arith}
+use Rattle.plans.proofs.Levels.{rise_begins, rise_fails, rise_goes_on, rise_ends}
 use Rattle.plans.proofs.levels_rise.Goals as goal
 
 pub loop-i-init : goal.loop-i-init

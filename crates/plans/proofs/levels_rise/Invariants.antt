@@ -1,7 +1,6 @@
-use Rattle.plans.proofs.Levels.{RisingTo, rise_begins, rise_fails, rise_goes_on, rise_ends}
+use Rattle.plans.proofs.Levels.{RisingTo}
 use lib.ListN.{length}
 use Prim.Native.Nat.{◌-◌}
-use native.Mathlib.Omega.{arith}
 use Rattle.plans.proofs.levels_rise.Given as goal
 
 abbrev pub invariant-loop-i : goal.invariant-loop-i

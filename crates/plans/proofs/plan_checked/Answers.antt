@@ -1,8 +1,5 @@
 use Rattle.plans.proofs.Plans.{plan_13, plan_set, plan_start, plan_refused, plan_rows, plan_handed, plan_taken, plan_made}
-use Prim.Native.Nat.{◌-◌}
-use borrow.Author.Tests.{not-true, not-false}
 use native.Mathlib.Omega.{arith}
-use borrow.Author.Rules.{rules}
 use Rattle.plans.proofs.plan_checked.Goals as goal
 
 pub returns-then-not-levels_rise : goal.returns-then-not-levels_rise

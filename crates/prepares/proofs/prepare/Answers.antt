@@ -1,6 +1,5 @@
 use Rattle.prepares.proofs.Preparing.{prepare_fails, still_fits, now_laid, prepare_marked, prepare_done}
 use borrow.Author.Tests.{not-true, not-false}
-use borrow.Author.Rules.{rules}
 use Rattle.prepares.proofs.prepare.Goals as goal
 
 pub returns-then-number-ne0 : goal.returns-then-number-ne0

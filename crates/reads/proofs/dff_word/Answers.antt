@@ -1,10 +1,4 @@
 use Rattle.reads.proofs.Numbers.{dff_first, dff_second}
-use lib.ListN.{length, get_or}
-use Prim.Native.Nat.{ℕ, ◌+◌, ◌-◌, ◌*◌, ◌≤◌, ◌<◌}
-use mathlib.Core.Path.{◌≡◌}
-use borrow.Author.Tests.{not-true, not-false}
-use native.Mathlib.Omega.{arith}
-use borrow.Author.Rules.{rules}
 use Rattle.reads.proofs.dff_word.Goals as goal
 
 pub returns-then-i-eq0 : goal.returns-then-i-eq0

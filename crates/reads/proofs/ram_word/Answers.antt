@@ -1,10 +1,4 @@
 use Rattle.reads.proofs.Numbers.{ram_first, ram_address, ram_data}
-use lib.ListN.{length, get_or}
-use Prim.Native.Nat.{ℕ, ◌+◌, ◌-◌, ◌*◌, ◌≤◌, ◌<◌}
-use mathlib.Core.Path.{◌≡◌}
-use borrow.Author.Tests.{not-true, not-false}
-use native.Mathlib.Omega.{arith}
-use borrow.Author.Rules.{rules}
 use Rattle.reads.proofs.ram_word.Goals as goal
 
 pub returns-then-i-eq0 : goal.returns-then-i-eq0

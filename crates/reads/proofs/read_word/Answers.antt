@@ -1,10 +1,4 @@
 use Rattle.reads.proofs.Numbers.{read_output, dff_inside, dff_number, read_dff, ram_inside, ram_number, read_ram}
-use lib.ListN.{length, get_or}
-use Prim.Native.Nat.{ℕ, ◌+◌, ◌-◌, ◌*◌, ◌≤◌, ◌<◌}
-use mathlib.Core.Path.{◌≡◌}
-use borrow.Author.Tests.{not-true, not-false}
-use native.Mathlib.Omega.{arith}
-use borrow.Author.Rules.{rules}
 use Rattle.reads.proofs.read_word.Goals as goal
 
 pub returns-then-e-first : goal.returns-then-e-first

@@ -1,10 +1,4 @@
 use Rattle.reads.proofs.Numbers.{long_output, long_dff, long_ram}
-use lib.ListN.{length, get_or}
-use Prim.Native.Nat.{ℕ, ◌+◌, ◌-◌, ◌*◌, ◌≤◌, ◌<◌}
-use mathlib.Core.Path.{◌≡◌}
-use borrow.Author.Tests.{not-true, not-false}
-use native.Mathlib.Omega.{arith}
-use borrow.Author.Rules.{rules}
 use Rattle.reads.proofs.reads_count.Goals as goal
 
 pub returns-then-e-outputs : goal.returns-then-e-outputs

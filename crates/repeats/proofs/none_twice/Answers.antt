@@ -1,7 +1,5 @@
 use Prim.Native.Nat.{◌<◌}
-use Rattle.repeats.proofs.Stamps.{Stamping, stamping_begins, stamping_more, stamping_fails, stamping_ends, entry_long, cell_long, at_inside, code_small}
-use lib.ListN.{length}
-use Prim.Native.Nat.{◌-◌}
+use Rattle.repeats.proofs.Stamps.{stamping_begins, stamping_more, stamping_fails, stamping_ends, entry_long, cell_long, at_inside, code_small}
 use native.Mathlib.Omega.{arith}
 use borrow.Author.Tests.{not-true, not-false}
 use Rattle.repeats.proofs.none_twice.Goals as goal

@@ -1,9 +1,6 @@
-use Prim.Native.Nat.{◌<◌}
-use Rattle.repeats.proofs.Stamps.{Stamping, stamping_begins, stamping_more, stamping_fails, stamping_ends, entry_long, cell_long, at_inside, code_small}
+use Rattle.repeats.proofs.Stamps.{Stamping}
 use lib.ListN.{length}
 use Prim.Native.Nat.{◌-◌}
-use native.Mathlib.Omega.{arith}
-use borrow.Author.Tests.{not-true, not-false}
 use Rattle.repeats.proofs.none_twice.Given as goal
 
 abbrev pub invariant-loop-j : goal.invariant-loop-j

@@ -1,5 +1,4 @@
 use Rattle.repeats.specs.Alike.{of_top, again, new}
-use borrow.Author.Rules.{rules}
 use Rattle.repeats.proofs.stamp.Goals as goal
 
 pub returns-then-cell-eq0 : goal.returns-then-cell-eq0

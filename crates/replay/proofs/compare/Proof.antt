@@ -1,12 +1,6 @@
-use Rattle.std.proofs.Common.{ℕ, ◌-◌, ◌≤◌, arith, rules}
+use Rattle.std.proofs.Common.{◌-◌, ◌≤◌, arith, rules}
 use Rattle.replay.proofs.compare.Statement.{statement}
 use Rattle.replay.proofs.compare.Tie as tie
-use Rattle.replay.proofs.compare.Reads as reads
-use Rattle.replay.proofs.compare.Lts as lts
-use Rattle.replay.proofs.at_most.Reads as at-most-reads
-use Rattle.replay.proofs.end_of.Reads as end-of-reads
-use Rattle.replay.proofs.expected.Reads as expected-reads
-use Rattle.replay.proofs.word_told.Reads as word-told-reads
 
 abbrev invariant-loop : tie.invariant-loop
 invariant-loop table found lent used words from end told₀ place₀ told place = (from ≤ 9216) × (end ≤ 6144)

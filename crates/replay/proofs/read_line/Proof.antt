@@ -1,11 +1,6 @@
-use Rattle.std.proofs.Common.{ℕ, ◌-◌, ◌≤◌, arith, rules}
+use Rattle.std.proofs.Common.{◌-◌, arith, rules}
 use Rattle.replay.proofs.read_line.Statement.{statement}
 use Rattle.replay.proofs.read_line.Tie as tie
-use Rattle.replay.proofs.read_line.Reads as reads
-use Rattle.replay.proofs.read_line.Lts as lts
-use Rattle.replay.proofs.after.Reads as after-reads
-use Rattle.replay.proofs.place_of.Reads as place-of-reads
-use Rattle.replay.proofs.read_table.Reads as read-table-reads
 
 abbrev invariant-loop : tie.invariant-loop
 invariant-loop text at words₀ next₀ table₀ words next table = Unit {0}

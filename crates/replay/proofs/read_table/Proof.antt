@@ -1,13 +1,6 @@
-use Rattle.std.proofs.Common.{ℕ, ◌-◌, ◌≤◌, arith, rules}
+use Rattle.std.proofs.Common.{◌-◌, ◌≤◌, arith, rules}
 use Rattle.replay.proofs.read_table.Statement.{statement}
 use Rattle.replay.proofs.read_table.Tie as tie
-use Rattle.replay.proofs.read_table.Reads as reads
-use Rattle.replay.proofs.read_table.Lts as lts
-use Rattle.replay.proofs.after.Reads as after-reads
-use Rattle.replay.proofs.byte_at.Reads as byte-at-reads
-use Rattle.replay.proofs.next_word.Reads as next-word-reads
-use Rattle.replay.proofs.put.Reads as put_reads
-use Rattle.replay.proofs.step.Reads as step-reads
 
 abbrev invariant-loop : tie.invariant-loop
 invariant-loop text at words₀ place next₀ i₀ words next i = place ≤ 8192

@@ -1,10 +1,6 @@
-use Rattle.std.proofs.Common.{ℕ, ◌-◌, ◌≤◌, arith, rules}
+use Rattle.std.proofs.Common.{◌-◌, arith, rules}
 use Rattle.replay.proofs.run_all.Statement.{statement}
 use Rattle.replay.proofs.run_all.Tie as tie
-use Rattle.replay.proofs.run_all.Reads as reads
-use Rattle.replay.proofs.run_all.Lts as lts
-use Rattle.replay.proofs.read_block.Reads as read-block-reads
-use Rattle.replay.proofs.run_block.Reads as run-block-reads
 
 abbrev invariant-loop : tie.invariant-loop
 invariant-loop score₀ text₀ i₀ score text i = Unit {0}

@@ -1,9 +1,6 @@
-use Rattle.std.proofs.Common.{ℕ, ◌-◌, ◌≤◌, arith, rules}
+use Rattle.std.proofs.Common.{◌-◌, arith, rules}
 use Rattle.replay.proofs.run_block.Statement.{statement}
 use Rattle.replay.proofs.run_block.Tie as tie
-use Rattle.replay.proofs.run_block.Reads as reads
-use Rattle.replay.proofs.run_block.Lts as lts
-use Rattle.replay.proofs.run_line.Reads as run-line-reads
 
 abbrev invariant-loop : tie.invariant-loop
 invariant-loop text run₀ i₀ run i = Unit {0}

@@ -1,13 +1,6 @@
 use Rattle.std.proofs.Common.{sym, arith, length-take-le, rules}
 use Rattle.replay.proofs.run_call.Statement.{statement}
 use Rattle.replay.proofs.run_call.Tie as tie
-use Rattle.replay.proofs.run_call.Reads as reads
-use Rattle.replay.proofs.run_call.Lts as lts
-use Rattle.aig.proofs.from_netlistdb.Reads as from-netlistdb-reads
-use Rattle.replay.proofs.compare_all.Reads as compare-all-reads
-use Rattle.replay.proofs.counts.Reads as counts-reads
-use Rattle.replay.proofs.full.Reads as full-reads
-use Rattle.replay.proofs.lent_words.Reads as lent-words-reads
 
 -- src/main.rt:454:9
 counts-requires : tie.Need-counts-requires

@@ -1,13 +1,6 @@
-use Rattle.std.proofs.Common.{ℕ, ◌-◌, ◌≤◌, arith, rules}
+use Rattle.std.proofs.Common.{◌-◌, arith, rules}
 use Rattle.replay.proofs.run_calls.Statement.{statement}
 use Rattle.replay.proofs.run_calls.Tie as tie
-use Rattle.replay.proofs.run_calls.Reads as reads
-use Rattle.replay.proofs.run_calls.Lts as lts
-use Rattle.replay.proofs.call_told.Reads as call-told-reads
-use Rattle.replay.proofs.larger.Reads as larger-reads
-use Rattle.replay.proofs.needed.Reads as needed-reads
-use Rattle.replay.proofs.run_call.Reads as run-call-reads
-use Rattle.replay.proofs.run_short.Reads as run-short-reads
 
 abbrev invariant-loop : tie.invariant-loop
 invariant-loop words kinds starts list pins nets told₀ which₀ told which = Unit {0}

@@ -1,5 +1,4 @@
 use Rattle.roles.proofs.Roles.{and_told}
-use borrow.Author.Rules.{rules}
 use Rattle.roles.proofs.and_role.Goals as goal
 
 pub returns : goal.returns

@@ -1,7 +1,6 @@
 use Prim.Native.Nat.{◌+◌}
 use native.Mathlib.Omega.{arith}
 use Rattle.roles.proofs.Entries.{end_behind, cell_held}
-use borrow.Author.Rules.{rules}
 use Rattle.roles.proofs.cell_entry.Goals as goal
 
 pub overflow_cast-at : goal.overflow_cast-at

@@ -1,6 +1,4 @@
-use native.Mathlib.Omega.{arith}
-use Prim.Native.Nat.{ℕ, ◌-◌}
-use Rattle.roles.proofs.Entries.{Searching, searching_begins, none_left, entry_held, entry_found, entry_passed}
+use Rattle.roles.proofs.Entries.{searching_begins, none_left, entry_held, entry_found, entry_passed}
 use Rattle.roles.proofs.entry_named.Goals as goal
 
 pub loop-i-init : goal.loop-i-init

@@ -1,6 +1,5 @@
-use native.Mathlib.Omega.{arith}
-use Prim.Native.Nat.{ℕ, ◌-◌}
-use Rattle.roles.proofs.Entries.{Searching, searching_begins, none_left, entry_held, entry_found, entry_passed}
+use Prim.Native.Nat.{◌-◌}
+use Rattle.roles.proofs.Entries.{Searching}
 use Rattle.roles.proofs.entry_named.Given as goal
 
 abbrev pub invariant-loop-i : goal.invariant-loop-i

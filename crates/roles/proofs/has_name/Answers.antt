@@ -1,5 +1,4 @@
 use Rattle.roles.proofs.Entries.{first_name, second_name, neither_name}
-use borrow.Author.Rules.{rules}
 use Rattle.roles.proofs.has_name.Goals as goal
 
 pub returns-then-name-a : goal.returns-then-name-a

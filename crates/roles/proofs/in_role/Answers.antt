@@ -1,5 +1,4 @@
 use Rattle.roles.proofs.Roles.{in_zero, in_one, in_top, in_cell}
-use borrow.Author.Rules.{rules}
 use Rattle.roles.proofs.in_role.Goals as goal
 
 pub returns-then-driver-eq0 : goal.returns-then-driver-eq0

@@ -1,5 +1,4 @@
 use Rattle.roles.proofs.Roles.{named_there, named_absent}
-use borrow.Author.Rules.{rules}
 use Rattle.roles.proofs.pin_named.Goals as goal
 
 pub returns-in-Pin : goal.returns-in-Pin

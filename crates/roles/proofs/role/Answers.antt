@@ -1,6 +1,5 @@
-use native.Mathlib.Omega.{arith}
 use Rattle.roles.proofs.Roles.{role_out, role_in}
-use Rattle.roles.proofs.Fitting.{laid, pin_long, cell_inside, net_inside}
+use Rattle.roles.proofs.Fitting.{laid, cell_inside, net_inside}
 use borrow.Author.Rules.{rules}
 use Rattle.roles.proofs.role.Goals as goal
 

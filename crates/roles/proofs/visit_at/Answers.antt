@@ -1,6 +1,5 @@
 use Rattle.roles.proofs.Fitting.{laid}
 use Rattle.roles.proofs.Roles.{visit_tied, visit_port, visit_ram, visit-nothing, visit_wire, visit_out_port, visit_inv, visit_buf, visit_and, visit-gate, visit_flop, flop_cell}
-use borrow.Author.Rules.{rules}
 use Rattle.roles.proofs.visit_at.Goals as goal
 
 pub cell_entry-requires : goal.cell_entry-requires

@@ -1,5 +1,4 @@
 use Rattle.rows.proofs.Filling.{from_below, list_held, bit_place, bit-told, bit-none}
-use borrow.Author.Rules.{rules}
 use Rattle.rows.proofs.cell_bit.Goals as goal
 
 pub overflow_sub-n : goal.overflow_sub-n

@@ -1,7 +1,4 @@
-use Rattle.rows.specs.Words.{has_bit}
-use Prim.Native.Nat.{◌-◌}
-use native.Mathlib.Omega.{arith}
-use Rattle.rows.proofs.Filling.{Scanning, scanning_begins, scanning_ends, scanning_found, scanning_goes_on, entry_held}
+use Rattle.rows.proofs.Filling.{scanning_begins, scanning_ends, scanning_found, scanning_goes_on, entry_held}
 use Rattle.rows.proofs.entry_bit.Goals as goal
 
 pub loop-i-init : goal.loop-i-init

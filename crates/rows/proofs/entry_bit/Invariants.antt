@@ -1,7 +1,6 @@
 use Rattle.rows.specs.Words.{has_bit}
 use Prim.Native.Nat.{◌-◌}
-use native.Mathlib.Omega.{arith}
-use Rattle.rows.proofs.Filling.{Scanning, scanning_begins, scanning_ends, scanning_found, scanning_goes_on, entry_held}
+use Rattle.rows.proofs.Filling.{Scanning}
 use Rattle.rows.proofs.entry_bit.Given as goal
 
 abbrev pub invariant-loop-i : goal.invariant-loop-i

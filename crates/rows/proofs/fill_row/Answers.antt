@@ -1,11 +1,7 @@
-use Prim.Native.Nat.{◌-◌, ◌≤◌}
-use lib.ListN.{length, length-set}
-use borrow.Author.Rules.{rules}
-use mathlib.Core.Path.{◌≡◌, refl}
+use lib.ListN.{length-set}
+use mathlib.Core.Path.{refl}
 use native.Mathlib.Omega.{arith}
-use Rattle.roles.specs.Reading.{tables}
-use Rattle.rows.specs.Words.{plain_word}
-use Rattle.words.proofs.Tables.{Writing, writing_begins}
+use Rattle.words.proofs.Tables.{writing_begins}
 use Rattle.rows.proofs.Filling.{row_goes_on, row_ends}
 use Rattle.rows.proofs.fill_row.Goals as goal
 

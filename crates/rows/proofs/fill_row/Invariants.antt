@@ -1,12 +1,9 @@
 use Prim.Native.Nat.{◌-◌, ◌≤◌}
-use lib.ListN.{length, length-set}
-use borrow.Author.Rules.{rules}
-use mathlib.Core.Path.{◌≡◌, refl}
-use native.Mathlib.Omega.{arith}
+use lib.ListN.{length}
+use mathlib.Core.Path.{◌≡◌}
 use Rattle.roles.specs.Reading.{tables}
 use Rattle.rows.specs.Words.{plain_word}
-use Rattle.words.proofs.Tables.{Writing, writing_begins}
-use Rattle.rows.proofs.Filling.{row_goes_on, row_ends}
+use Rattle.words.proofs.Tables.{Writing}
 use Rattle.rows.proofs.fill_row.Given as goal
 
 abbrev pub invariant-loop-j : goal.invariant-loop-j

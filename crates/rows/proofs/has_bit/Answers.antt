@@ -1,5 +1,4 @@
 use Rattle.rows.proofs.Filling.{other_name, same_name}
-use borrow.Author.Rules.{rules}
 use Rattle.rows.proofs.has_bit.Goals as goal
 
 pub returns-then-own-name : goal.returns-then-own-name

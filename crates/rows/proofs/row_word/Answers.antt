@@ -1,5 +1,4 @@
 use Rattle.rows.proofs.Filling.{word_zero, word_read, word_data, word_write, word_enable, word_last}
-use borrow.Author.Rules.{rules}
 use Rattle.rows.proofs.row_word.Goals as goal
 
 pub returns-then-j-eq0 : goal.returns-then-j-eq0

@@ -1,6 +1,4 @@
-use Rattle.settles.proofs.Rows.{row_full, row_2, row_3, row_4, row_done}
-use Prim.Native.Nat.{◌-◌}
-use borrow.Author.Rules.{rules}
+use Rattle.settles.proofs.Rows.{row_full, row_done}
 use Rattle.settles.proofs.push_row.Goals as goal
 
 pub returns-then-room-lt4 : goal.returns-then-room-lt4

@@ -1,7 +1,5 @@
 use mathlib.Core.List.{[]}
 use Rattle.settles.proofs.Settles.{settle_set, settle_done}
-use Prim.Native.Nat.{◌-◌}
-use borrow.Author.Rules.{rules}
 use Rattle.settles.proofs.settle.Goals as goal
 
 pub leave-requires : goal.leave-requires

@@ -1,6 +1,4 @@
-use Rattle.sheets.proofs.Filling.{Copying, copy_begins, copy_goes_on, copy_ends}
-use native.Mathlib.Omega.{arith}
-use borrow.Author.Rules.{rules}
+use Rattle.sheets.proofs.Filling.{copy_begins, copy_goes_on, copy_ends}
 use Rattle.sheets.proofs.copy_words.Goals as goal
 
 pub loop-left-init : goal.loop-left-init

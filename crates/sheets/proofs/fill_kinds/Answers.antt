@@ -1,7 +1,4 @@
-use Rattle.sheets.proofs.Filling.{Kinds, kinds_begin, kinds_go_on, kinds_end}
-use Prim.Native.Nat.{◌-◌}
-use native.Mathlib.Omega.{arith}
-use borrow.Author.Rules.{rules}
+use Rattle.sheets.proofs.Filling.{kinds_begin, kinds_go_on, kinds_end}
 use Rattle.sheets.proofs.fill_kinds.Goals as goal
 
 pub loop-i-init : goal.loop-i-init

@@ -1,7 +1,5 @@
-use Rattle.sheets.proofs.Filling.{Kinds, kinds_begin, kinds_go_on, kinds_end}
+use Rattle.sheets.proofs.Filling.{Kinds}
 use Prim.Native.Nat.{◌-◌}
-use native.Mathlib.Omega.{arith}
-use borrow.Author.Rules.{rules}
 use Rattle.sheets.proofs.fill_kinds.Given as goal
 
 abbrev pub invariant-loop-i : goal.invariant-loop-i

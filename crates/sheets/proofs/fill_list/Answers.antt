@@ -1,7 +1,4 @@
-use Rattle.sheets.proofs.Filling.{Lists, lists_begin, lists_go_on, lists_end, lists_count}
-use Prim.Native.Nat.{◌-◌}
-use native.Mathlib.Omega.{arith}
-use borrow.Author.Rules.{rules}
+use Rattle.sheets.proofs.Filling.{lists_begin, lists_go_on, lists_end, lists_count}
 use Rattle.sheets.proofs.fill_list.Goals as goal
 
 pub loop-i-init : goal.loop-i-init

@@ -1,7 +1,5 @@
-use Rattle.sheets.proofs.Filling.{Lists, lists_begin, lists_go_on, lists_end, lists_count}
+use Rattle.sheets.proofs.Filling.{Lists}
 use Prim.Native.Nat.{◌-◌}
-use native.Mathlib.Omega.{arith}
-use borrow.Author.Rules.{rules}
 use Rattle.sheets.proofs.fill_list.Given as goal
 
 abbrev pub invariant-loop-i : goal.invariant-loop-i

@@ -1,7 +1,4 @@
-use Rattle.sheets.proofs.Filling.{Nets, nets_begin, nets_go_on, nets_end}
-use mathlib.Core.Path.{◌≡◌}
-use Prim.Native.Nat.{◌-◌}
-use native.Mathlib.Omega.{arith}
+use Rattle.sheets.proofs.Filling.{nets_begin, nets_go_on, nets_end}
 use borrow.Author.Rules.{rules}
 use Rattle.sheets.proofs.fill_nets.Goals as goal
 

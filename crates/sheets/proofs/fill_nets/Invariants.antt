@@ -1,8 +1,6 @@
-use Rattle.sheets.proofs.Filling.{Nets, nets_begin, nets_go_on, nets_end}
+use Rattle.sheets.proofs.Filling.{Nets}
 use mathlib.Core.Path.{◌≡◌}
 use Prim.Native.Nat.{◌-◌}
-use native.Mathlib.Omega.{arith}
-use borrow.Author.Rules.{rules}
 use Rattle.sheets.proofs.fill_nets.Given as goal
 
 abbrev pub invariant-loop-i : goal.invariant-loop-i

@@ -1,7 +1,4 @@
-use Rattle.sheets.proofs.Filling.{Starts, starts_begin, starts_go_on, starts_end}
-use Prim.Native.Nat.{◌-◌}
-use native.Mathlib.Omega.{arith}
-use borrow.Author.Rules.{rules}
+use Rattle.sheets.proofs.Filling.{starts_begin, starts_go_on, starts_end}
 use Rattle.sheets.proofs.fill_starts.Goals as goal
 
 pub loop-i-init : goal.loop-i-init

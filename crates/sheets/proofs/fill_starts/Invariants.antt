@@ -1,7 +1,5 @@
-use Rattle.sheets.proofs.Filling.{Starts, starts_begin, starts_go_on, starts_end}
+use Rattle.sheets.proofs.Filling.{Starts}
 use Prim.Native.Nat.{◌-◌}
-use native.Mathlib.Omega.{arith}
-use borrow.Author.Rules.{rules}
 use Rattle.sheets.proofs.fill_starts.Given as goal
 
 abbrev pub invariant-loop-i : goal.invariant-loop-i

@@ -1,6 +1,4 @@
 use Rattle.sheets.proofs.Filling.{net_constant, net_driven_bit, net_past}
-use native.Mathlib.Omega.{arith}
-use borrow.Author.Rules.{rules}
 use Rattle.sheets.proofs.net_word.Goals as goal
 
 pub returns-then-k-le1 : goal.returns-then-k-le1

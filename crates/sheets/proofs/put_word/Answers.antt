@@ -1,6 +1,4 @@
 use Rattle.sheets.proofs.Filling.{put_past}
-use native.Mathlib.Omega.{arith}
-use borrow.Author.Rules.{rules}
 use Rattle.sheets.proofs.put_word.Goals as goal
 
 pub returns-else-i-t : goal.returns-else-i-t

@@ -1,6 +1,4 @@
 use Rattle.sheets.proofs.Filling.{number-cells, number_pins, number_nets, number_good, number_long, number-broken}
-use native.Mathlib.Omega.{arith}
-use borrow.Author.Rules.{rules}
 use Rattle.sheets.proofs.read_number.Goals as goal
 
 pub returns-then-r-gt512 : goal.returns-then-r-gt512

@@ -1,6 +1,4 @@
 use Rattle.sheets.proofs.Filling.{word_past}
-use native.Mathlib.Omega.{arith}
-use borrow.Author.Rules.{rules}
 use Rattle.sheets.proofs.word_at.Goals as goal
 
 pub returns : goal.returns

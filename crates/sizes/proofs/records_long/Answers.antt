@@ -1,5 +1,4 @@
 use Rattle.sizes.proofs.Tests.{drivers_off, outputs_off, dffs_off, records_by}
-use borrow.Author.Rules.{rules}
 use Rattle.sizes.proofs.records_long.Goals as goal
 
 pub returns-then-s-pins : goal.returns-then-s-pins

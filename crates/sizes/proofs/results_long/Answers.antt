@@ -1,5 +1,4 @@
 use Rattle.sizes.proofs.Tests.{literals_off, starts_off, lists_off, results_by}
-use borrow.Author.Rules.{rules}
 use Rattle.sizes.proofs.results_long.Goals as goal
 
 pub returns-then-s-size : goal.returns-then-s-size

@@ -1,6 +1,5 @@
 use Rattle.sizes.proofs.Tests.{counts_refused, rooms_refused, lent-refused, records_refused, results_refused, sizes_right}
 use borrow.Author.Tests.{not-true, not-false}
-use borrow.Author.Rules.{rules}
 use Rattle.sizes.proofs.sizes_number.Goals as goal
 
 pub returns-then-not-counts : goal.returns-then-not-counts

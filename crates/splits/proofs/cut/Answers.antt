@@ -1,11 +1,6 @@
 use Rattle.splits.proofs.Cuts.{cut_known, cut_set}
 use Rattle.splits.proofs.Ends.{cut_lefts, cut_narrow, cut_count, cut_takens, cut_hand_set, cut_done}
-use lib.ListN.{length, get_or}
-use Prim.Native.Nat.{ℕ, ◌+◌, ◌-◌, ◌*◌, ◌≤◌, ◌<◌}
-use mathlib.Core.Path.{◌≡◌}
 use borrow.Author.Tests.{not-true, not-false}
-use native.Mathlib.Omega.{arith}
-use borrow.Author.Rules.{rules}
 use Rattle.splits.proofs.cut.Goals as goal
 
 pub take_all-t-requires : goal.take_all-t-requires

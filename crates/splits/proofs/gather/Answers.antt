@@ -1,10 +1,4 @@
 use Rattle.splits.proofs.Gathering.{gather_lefts, gather_going, gather_spare, gather_ranks, gather_spare_levels, gather_done}
-use lib.ListN.{length, get_or}
-use Prim.Native.Nat.{ℕ, ◌+◌, ◌-◌, ◌*◌, ◌≤◌, ◌<◌}
-use mathlib.Core.Path.{◌≡◌}
-use borrow.Author.Tests.{not-true, not-false}
-use native.Mathlib.Omega.{arith}
-use borrow.Author.Rules.{rules}
 use Rattle.splits.proofs.gather.Goals as goal
 
 pub visit_left-k-requires : goal.visit_left-k-requires

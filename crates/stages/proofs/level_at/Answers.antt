@@ -1,6 +1,4 @@
 use Rattle.stages.proofs.Runs.{level-none, level_some, level_asks}
-use Prim.Native.Nat.{◌-◌}
-use borrow.Author.Rules.{rules}
 use Rattle.stages.proofs.level_at.Goals as goal
 
 pub returns-then-splits-i : goal.returns-then-splits-i

@@ -1,9 +1,5 @@
-use Rattle.stages.proofs.Runs.{Staging, run_begins, run_14, run_11, run_done, run_goes_on}
-use lib.ListN.{length}
-use Prim.Native.Nat.{◌+◌, ◌-◌}
-use mathlib.Core.Path.{◌∙◌}
+use Rattle.stages.proofs.Runs.{run_begins, run_14, run_11, run_done, run_goes_on}
 use borrow.Author.Tests.{not-true, not-false}
-use borrow.Author.Rules.{rules}
 use native.Mathlib.Omega.{arith}
 use Rattle.stages.proofs.run.Goals as goal
 

@@ -1,10 +1,6 @@
-use Rattle.stages.proofs.Runs.{Staging, run_begins, run_14, run_11, run_done, run_goes_on}
+use Rattle.stages.proofs.Runs.{Staging}
 use lib.ListN.{length}
 use Prim.Native.Nat.{◌+◌, ◌-◌}
-use mathlib.Core.Path.{◌∙◌}
-use borrow.Author.Tests.{not-true, not-false}
-use borrow.Author.Rules.{rules}
-use native.Mathlib.Omega.{arith}
 use Rattle.stages.proofs.run.Given as goal
 
 abbrev pub invariant-loop-i : goal.invariant-loop-i

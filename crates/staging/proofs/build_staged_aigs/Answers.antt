@@ -1,7 +1,4 @@
 use Rattle.staging.proofs.Entry.{work_zeroed, stages_early, stages_plans, stages_late}
-use Prim.Native.Nat.{◌-◌}
-use mathlib.Core.Path.{◌∙◌}
-use borrow.Author.Rules.{rules}
 use Rattle.staging.proofs.build_staged_aigs.Goals as goal
 
 pub graph_number-k-requires : goal.graph_number-k-requires

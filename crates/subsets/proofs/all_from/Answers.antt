@@ -1,10 +1,4 @@
-use Rattle.subsets.proofs.Places.{FromOn, from_begins, from_goes_on, from_fails, from_ends}
-use lib.ListN.{length, get_or}
-use Prim.Native.Nat.{ℕ, ◌+◌, ◌-◌, ◌*◌, ◌≤◌, ◌<◌}
-use mathlib.Core.Path.{◌≡◌}
-use borrow.Author.Tests.{not-true, not-false}
-use borrow.Author.Rules.{rules}
-use native.Mathlib.Omega.{arith}
+use Rattle.subsets.proofs.Places.{from_begins, from_goes_on, from_fails, from_ends}
 use Rattle.subsets.proofs.all_from.Goals as goal
 
 pub loop-i-init : goal.loop-i-init

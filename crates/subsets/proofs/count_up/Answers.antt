@@ -1,10 +1,4 @@
-use Rattle.subsets.proofs.Full.{CountingUp, up_begins, up_goes_on, up_ends}
-use lib.ListN.{length, get_or}
-use Prim.Native.Nat.{ℕ, ◌+◌, ◌-◌, ◌*◌, ◌≤◌, ◌<◌}
-use mathlib.Core.Path.{◌≡◌}
-use borrow.Author.Tests.{not-true, not-false}
-use borrow.Author.Rules.{rules}
-use native.Mathlib.Omega.{arith}
+use Rattle.subsets.proofs.Full.{up_begins, up_goes_on, up_ends}
 use Rattle.subsets.proofs.count_up.Goals as goal
 
 pub loop-i-init : goal.loop-i-init

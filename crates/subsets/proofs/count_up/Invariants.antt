@@ -1,10 +1,5 @@
-use Rattle.subsets.proofs.Full.{CountingUp, up_begins, up_goes_on, up_ends}
-use lib.ListN.{length, get_or}
-use Prim.Native.Nat.{ℕ, ◌+◌, ◌-◌, ◌*◌, ◌≤◌, ◌<◌}
-use mathlib.Core.Path.{◌≡◌}
-use borrow.Author.Tests.{not-true, not-false}
-use borrow.Author.Rules.{rules}
-use native.Mathlib.Omega.{arith}
+use Rattle.subsets.proofs.Full.{CountingUp}
+use Prim.Native.Nat.{◌-◌}
 use Rattle.subsets.proofs.count_up.Given as goal
 
 abbrev pub invariant-loop-i : goal.invariant-loop-i

@@ -1,10 +1,4 @@
 use Rattle.subsets.proofs.Endpoints.{pins_many, outputs_many, dffs_many, counts_few}
-use lib.ListN.{length, get_or}
-use Prim.Native.Nat.{ℕ, ◌+◌, ◌-◌, ◌*◌, ◌≤◌, ◌<◌}
-use mathlib.Core.Path.{◌≡◌}
-use borrow.Author.Tests.{not-true, not-false}
-use borrow.Author.Rules.{rules}
-use native.Mathlib.Omega.{arith}
 use Rattle.subsets.proofs.counts_fit.Goals as goal
 
 pub returns-then-c-gt16777215 : goal.returns-then-c-gt16777215

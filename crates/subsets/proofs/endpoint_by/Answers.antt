@@ -1,10 +1,4 @@
 use Rattle.subsets.proofs.Endpoints.{by_output, by_flop, by_memory}
-use lib.ListN.{length, get_or}
-use Prim.Native.Nat.{ℕ, ◌+◌, ◌-◌, ◌*◌, ◌≤◌, ◌<◌}
-use mathlib.Core.Path.{◌≡◌}
-use borrow.Author.Tests.{not-true, not-false}
-use borrow.Author.Rules.{rules}
-use native.Mathlib.Omega.{arith}
 use Rattle.subsets.proofs.endpoint_by.Goals as goal
 
 pub returns-then-e-c : goal.returns-then-e-c

@@ -1,10 +1,5 @@
 use Rattle.subsets.proofs.Full.{full_refused, full_zeroed, full_fits, full_few, full_made, full_sound}
-use lib.ListN.{length, get_or}
-use Prim.Native.Nat.{ℕ, ◌+◌, ◌-◌, ◌*◌, ◌≤◌, ◌<◌}
-use mathlib.Core.Path.{◌≡◌}
-use borrow.Author.Tests.{not-true, not-false}
 use native.Mathlib.Omega.{arith}
-use borrow.Author.Rules.{rules}
 use Rattle.subsets.proofs.from_full_aig.Goals as goal
 
 pub returns-then-k-ne0 : goal.returns-then-k-ne0

@@ -1,10 +1,5 @@
 use Rattle.subsets.proofs.Full.{full_1, full_1_room, full_11, full_0}
-use lib.ListN.{length, get_or}
-use Prim.Native.Nat.{ℕ, ◌+◌, ◌-◌, ◌*◌, ◌≤◌, ◌<◌}
-use mathlib.Core.Path.{◌≡◌}
 use borrow.Author.Tests.{not-true, not-false}
-use native.Mathlib.Omega.{arith}
-use borrow.Author.Rules.{rules}
 use Rattle.subsets.proofs.full_number.Goals as goal
 
 pub returns-then-not-counts_fit : goal.returns-then-not-counts_fit

@@ -1,10 +1,5 @@
 use Rattle.subsets.proofs.Endpoints.{group_1, group_15, group_at}
-use lib.ListN.{length, get_or}
-use Prim.Native.Nat.{ℕ, ◌+◌, ◌-◌, ◌*◌, ◌≤◌, ◌<◌}
-use mathlib.Core.Path.{◌≡◌}
 use borrow.Author.Tests.{not-true, not-false}
-use native.Mathlib.Omega.{arith}
-use borrow.Author.Rules.{rules}
 use Rattle.subsets.proofs.get_endpoint_group.Goals as goal
 
 pub returns-then-not-counts_fit : goal.returns-then-not-counts_fit

@@ -1,10 +1,4 @@
-use Rattle.subsets.proofs.Places.{Leading, lead_begins, lead_goes_on, lead_stops, lead_ends}
-use lib.ListN.{length, get_or}
-use Prim.Native.Nat.{ℕ, ◌+◌, ◌-◌, ◌*◌, ◌≤◌, ◌<◌}
-use mathlib.Core.Path.{◌≡◌}
-use borrow.Author.Tests.{not-true, not-false}
-use borrow.Author.Rules.{rules}
-use native.Mathlib.Omega.{arith}
+use Rattle.subsets.proofs.Places.{lead_begins, lead_goes_on, lead_stops, lead_ends}
 use Rattle.subsets.proofs.leading_places.Goals as goal
 
 pub loop-i-init : goal.loop-i-init

@@ -1,10 +1,4 @@
 use Rattle.subsets.proofs.Places.{handed_many, taken_many, places_many, room_many, lists_few}
-use lib.ListN.{length, get_or}
-use Prim.Native.Nat.{ℕ, ◌+◌, ◌-◌, ◌*◌, ◌≤◌, ◌<◌}
-use mathlib.Core.Path.{◌≡◌}
-use borrow.Author.Tests.{not-true, not-false}
-use borrow.Author.Rules.{rules}
-use native.Mathlib.Omega.{arith}
 use Rattle.subsets.proofs.lists_fit.Goals as goal
 
 pub returns-then-handed-gt16777215 : goal.returns-then-handed-gt16777215

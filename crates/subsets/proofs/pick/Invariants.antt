@@ -1,10 +1,5 @@
-use Rattle.subsets.proofs.Places.{Picked, pick_begins, pick_least, pick_inside, pick_goes_on, pick_ends}
-use lib.ListN.{length, get_or}
-use Prim.Native.Nat.{ℕ, ◌+◌, ◌-◌, ◌*◌, ◌≤◌, ◌<◌}
-use mathlib.Core.Path.{◌≡◌}
-use borrow.Author.Tests.{not-true, not-false}
-use borrow.Author.Rules.{rules}
-use native.Mathlib.Omega.{arith}
+use Rattle.subsets.proofs.Places.{Picked}
+use Prim.Native.Nat.{◌-◌}
 use Rattle.subsets.proofs.pick.Given as goal
 
 abbrev pub invariant-loop-j : goal.invariant-loop-j

@@ -1,10 +1,4 @@
 use Rattle.subsets.proofs.Places.{first_places, first_fits, second_places, second_fits, subset_made}
-use lib.ListN.{length, get_or}
-use Prim.Native.Nat.{ℕ, ◌+◌, ◌-◌, ◌*◌, ◌≤◌, ◌<◌}
-use mathlib.Core.Path.{◌≡◌}
-use borrow.Author.Tests.{not-true, not-false}
-use native.Mathlib.Omega.{arith}
-use borrow.Author.Rules.{rules}
 use Rattle.subsets.proofs.pick_both.Goals as goal
 
 pub pick-requires : goal.pick-requires

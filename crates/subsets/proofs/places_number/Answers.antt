@@ -1,10 +1,6 @@
 use Rattle.subsets.proofs.Places.{lead_within, leading_le, places_15, places_15_order, places_11, places_11_taken, places_0}
-use lib.ListN.{length, get_or}
-use Prim.Native.Nat.{ℕ, ◌+◌, ◌-◌, ◌*◌, ◌≤◌, ◌<◌}
-use mathlib.Core.Path.{◌≡◌}
 use borrow.Author.Tests.{not-true, not-false}
 use native.Mathlib.Omega.{arith}
-use borrow.Author.Rules.{rules}
 use Rattle.subsets.proofs.places_number.Goals as goal
 
 pub overflow_sub-rest : goal.overflow_sub-rest

@@ -1,10 +1,4 @@
 use Rattle.subsets.proofs.Endpoints.{there_within, by_handed, by_taken}
-use lib.ListN.{length, get_or}
-use Prim.Native.Nat.{ℕ, ◌+◌, ◌-◌, ◌*◌, ◌≤◌, ◌<◌}
-use mathlib.Core.Path.{◌≡◌}
-use borrow.Author.Tests.{not-true, not-false}
-use native.Mathlib.Omega.{arith}
-use borrow.Author.Rules.{rules}
 use Rattle.subsets.proofs.staged_by.Goals as goal
 
 pub returns-then-i-handed : goal.returns-then-i-handed

@@ -1,10 +1,6 @@
-use Rattle.subsets.proofs.Endpoints.{there_within, staged_1, staged_1_handed, staged_1_taken, staged_15, staged_at}
-use lib.ListN.{length, get_or}
-use Prim.Native.Nat.{ℕ, ◌+◌, ◌-◌, ◌*◌, ◌≤◌, ◌<◌}
-use mathlib.Core.Path.{◌≡◌, sym, ◌∙◌}
+use Rattle.subsets.proofs.Endpoints.{staged_1, staged_1_handed, staged_1_taken, staged_15, staged_at}
+use mathlib.Core.Path.{sym, ◌∙◌}
 use borrow.Author.Tests.{not-true, not-false}
-use native.Mathlib.Omega.{arith}
-use borrow.Author.Rules.{rules}
 use Rattle.subsets.proofs.staged_endpoint_group.Goals as goal
 
 pub returns-then-not-counts_fit : goal.returns-then-not-counts_fit

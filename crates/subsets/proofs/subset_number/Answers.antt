@@ -1,10 +1,5 @@
 use Rattle.subsets.proofs.Places.{subset_1, handed_few, taken_few, subset_later}
-use lib.ListN.{length, get_or}
-use Prim.Native.Nat.{ℕ, ◌+◌, ◌-◌, ◌*◌, ◌≤◌, ◌<◌}
-use mathlib.Core.Path.{◌≡◌}
 use borrow.Author.Tests.{not-true, not-false}
-use native.Mathlib.Omega.{arith}
-use borrow.Author.Rules.{rules}
 use Rattle.subsets.proofs.subset_number.Goals as goal
 
 pub returns-then-not-lists_fit : goal.returns-then-not-lists_fit

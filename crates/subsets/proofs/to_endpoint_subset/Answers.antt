@@ -1,10 +1,4 @@
 use Rattle.subsets.proofs.Places.{subset-refused, subset_ready, subset_picked}
-use lib.ListN.{length, get_or}
-use Prim.Native.Nat.{ℕ, ◌+◌, ◌-◌, ◌*◌, ◌≤◌, ◌<◌}
-use mathlib.Core.Path.{◌≡◌}
-use borrow.Author.Tests.{not-true, not-false}
-use native.Mathlib.Omega.{arith}
-use borrow.Author.Rules.{rules}
 use Rattle.subsets.proofs.to_endpoint_subset.Goals as goal
 
 pub returns-then-k-ne0 : goal.returns-then-k-ne0

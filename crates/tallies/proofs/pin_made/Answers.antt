@@ -1,6 +1,5 @@
 use Rattle.tallies.proofs.Counts.{bit_small, pin_counted_lem}
 use native.Mathlib.Omega.{arith}
-use borrow.Author.Rules.{rules}
 use Rattle.tallies.proofs.pin_made.Goals as goal
 
 pub overflow_add-result-2 : goal.overflow_add-result-2

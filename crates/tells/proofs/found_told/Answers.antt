@@ -1,5 +1,4 @@
 use Rattle.tells.proofs.Answers.{found_at, found_refused}
-use borrow.Author.Rules.{rules}
 use Rattle.tells.proofs.found_told.Goals as goal
 
 pub returns-in-At : goal.returns-in-At

@@ -1,5 +1,4 @@
 use Rattle.tells.proofs.Answers.{listed_pins, listed_refused}
-use borrow.Author.Rules.{rules}
 use Rattle.tells.proofs.listed_told.Goals as goal
 
 pub returns-in-Pins : goal.returns-in-Pins

@@ -1,5 +1,4 @@
 use Rattle.tells.proofs.Answers.{parted_stage, parted_refused}
-use borrow.Author.Rules.{rules}
 use Rattle.tells.proofs.parted_told.Goals as goal
 
 pub returns-in-Stage : goal.returns-in-Stage

@@ -1,5 +1,4 @@
 use Rattle.tells.proofs.Answers.{read_pin_lem, read-refused}
-use borrow.Author.Rules.{rules}
 use Rattle.tells.proofs.read_told.Goals as goal
 
 pub returns-in-Pin : goal.returns-in-Pin

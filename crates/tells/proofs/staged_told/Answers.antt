@@ -1,5 +1,4 @@
 use Rattle.tells.proofs.Answers.{staged_stages, staged_refused}
-use borrow.Author.Rules.{rules}
 use Rattle.tells.proofs.staged_told.Goals as goal
 
 pub returns-in-Stages : goal.returns-in-Stages

@@ -1,5 +1,4 @@
 use Rattle.tells.proofs.Telling.{tell_refused, tell_zeroed, tell_roomy, tell_done}
-use borrow.Author.Rules.{rules}
 use Rattle.tells.proofs.tell.Goals as goal
 
 pub returns-then-k-ne0 : goal.returns-then-k-ne0

@@ -1,5 +1,4 @@
 use Rattle.tells.proofs.Telling.{one_done, one-refused}
-use borrow.Author.Rules.{rules}
 use Rattle.tells.proofs.tell_one.Goals as goal
 
 pub returns-then-k-eq0 : goal.returns-then-k-eq0

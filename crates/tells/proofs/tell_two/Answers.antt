@@ -1,5 +1,4 @@
 use Rattle.tells.proofs.Telling.{two_done, two_refused}
-use borrow.Author.Rules.{rules}
 use Rattle.tells.proofs.tell_two.Goals as goal
 
 pub returns-then-k-eq0 : goal.returns-then-k-eq0

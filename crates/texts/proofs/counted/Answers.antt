@@ -1,5 +1,4 @@
 use Rattle.texts.proofs.Records.{counted_is}
-use borrow.Author.Rules.{rules}
 use Rattle.texts.proofs.counted.Goals as goal
 
 pub returns : goal.returns

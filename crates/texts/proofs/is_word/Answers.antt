@@ -1,10 +1,7 @@
 use Rattle.texts.proofs.Bytes.{agree_next, agree_breaks}
-use Rattle.words.proofs.Tables.{Agree, agree_begins, agree_ends, lengths_differ}
-use lib.ListN.{length}
+use Rattle.words.proofs.Tables.{agree_begins, agree_ends, lengths_differ}
 use borrow.Author.Rules.{rules}
 use native.Mathlib.Omega.{arith}
-use mathlib.Core.Path.{◌≡◌}
-use Prim.Native.Nat.{◌≤◌, ◌-◌}
 use Rattle.texts.proofs.is_word.Goals as goal
 
 pub returns-then-a-b : goal.returns-then-a-b

@@ -1,8 +1,5 @@
-use Rattle.texts.proofs.Bytes.{agree_next, agree_breaks}
-use Rattle.words.proofs.Tables.{Agree, agree_begins, agree_ends, lengths_differ}
+use Rattle.words.proofs.Tables.{Agree}
 use lib.ListN.{length}
-use borrow.Author.Rules.{rules}
-use native.Mathlib.Omega.{arith}
 use mathlib.Core.Path.{◌≡◌}
 use Prim.Native.Nat.{◌≤◌, ◌-◌}
 use Rattle.texts.proofs.is_word.Given as goal

@@ -1,8 +1,6 @@
 use mathlib.Core.Path.{sym}
 use Rattle.texts.proofs.Lines.{line_no_word, line_early, line_placed}
 use lib.Seq.{length-take-le}
-use native.Mathlib.Omega.{arith}
-use borrow.Author.Rules.{rules}
 use Rattle.texts.proofs.line.Goals as goal
 
 pub slice_bounds-sort_of-end : goal.slice_bounds-sort_of-end

@@ -1,6 +1,4 @@
 use Rattle.texts.proofs.Bytes.{number_empty, number-single, number-leading, number_many}
-use borrow.Author.Rules.{rules}
-use native.Mathlib.Omega.{arith}
 use Rattle.texts.proofs.number.Goals as goal
 
 pub returns-then-s-eq0 : goal.returns-then-s-eq0

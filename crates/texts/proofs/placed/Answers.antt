@@ -1,5 +1,4 @@
 use Rattle.texts.proofs.Lines.{placed_not_number, placed_misshaped, placed_good}
-use borrow.Author.Rules.{rules}
 use Rattle.texts.proofs.placed.Goals as goal
 
 pub returns-then-not-t : goal.returns-then-not-t

@@ -1,5 +1,4 @@
 use Rattle.texts.proofs.Bytes.{put_past}
-use borrow.Author.Rules.{rules}
 use Rattle.texts.proofs.put.Goals as goal
 
 pub returns-else-i-t : goal.returns-else-i-t

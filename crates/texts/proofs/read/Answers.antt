@@ -1,5 +1,4 @@
 use Rattle.texts.proofs.Lines.{text_long}
-use borrow.Author.Rules.{rules}
 use Rattle.texts.proofs.read.Goals as goal
 
 pub returns-then-text-gt262144 : goal.returns-then-text-gt262144

@@ -1,8 +1,4 @@
-use Rattle.texts.proofs.Lines.{Going, going_begins, going_fits, going_on, going_breaks, going_ends}
-use lib.ListN.{length}
-use Prim.Native.Nat.{◌+◌, ◌-◌}
-use borrow.Author.Rules.{rules}
-use native.Mathlib.Omega.{arith}
+use Rattle.texts.proofs.Lines.{going_begins, going_fits, going_on, going_breaks, going_ends}
 use Rattle.texts.proofs.read_lines.Goals as goal
 
 pub loop-at-init : goal.loop-at-init

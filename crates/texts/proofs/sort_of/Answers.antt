@@ -1,5 +1,4 @@
 use Rattle.texts.proofs.Records.{sort_cell, sort_pin, sort_net, sort_split, sort_none}
-use borrow.Author.Rules.{rules}
 use Rattle.texts.proofs.sort_of.Goals as goal
 
 pub returns-then-is_word : goal.returns-then-is_word

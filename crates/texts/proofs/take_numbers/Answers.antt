@@ -1,8 +1,4 @@
-use Rattle.texts.proofs.Numbers.{Gathering, gather_begins, gather_goes_on, gather_stops, gather_ends}
-use lib.ListN.{length}
-use Prim.Native.Nat.{◌+◌, ◌-◌}
-use borrow.Author.Rules.{rules}
-use native.Mathlib.Omega.{arith}
+use Rattle.texts.proofs.Numbers.{gather_begins, gather_goes_on, gather_stops, gather_ends}
 use Rattle.texts.proofs.take_numbers.Goals as goal
 
 pub loop-a-init : goal.loop-a-init

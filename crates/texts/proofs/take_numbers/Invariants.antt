@@ -1,8 +1,6 @@
-use Rattle.texts.proofs.Numbers.{Gathering, gather_begins, gather_goes_on, gather_stops, gather_ends}
+use Rattle.texts.proofs.Numbers.{Gathering}
 use lib.ListN.{length}
 use Prim.Native.Nat.{◌+◌, ◌-◌}
-use borrow.Author.Rules.{rules}
-use native.Mathlib.Omega.{arith}
 use Rattle.texts.proofs.take_numbers.Given as goal
 
 abbrev pub invariant-loop-a : goal.invariant-loop-a

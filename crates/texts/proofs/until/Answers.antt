@@ -1,7 +1,4 @@
-use Rattle.texts.proofs.Bytes.{Seeking, seek_begins, seek_goes_on, seek_finds, seek_ends}
-use lib.ListN.{length}
-use Prim.Native.Nat.{◌-◌}
-use native.Mathlib.Omega.{arith}
+use Rattle.texts.proofs.Bytes.{seek_begins, seek_goes_on, seek_finds, seek_ends}
 use Rattle.texts.proofs.until.Goals as goal
 
 pub loop-i-init : goal.loop-i-init

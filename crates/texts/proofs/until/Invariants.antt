@@ -1,7 +1,6 @@
-use Rattle.texts.proofs.Bytes.{Seeking, seek_begins, seek_goes_on, seek_finds, seek_ends}
+use Rattle.texts.proofs.Bytes.{Seeking}
 use lib.ListN.{length}
 use Prim.Native.Nat.{◌-◌}
-use native.Mathlib.Omega.{arith}
 use Rattle.texts.proofs.until.Given as goal
 
 abbrev pub invariant-loop-i : goal.invariant-loop-i

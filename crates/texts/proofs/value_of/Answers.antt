@@ -1,8 +1,4 @@
-use Rattle.texts.proofs.Bytes.{Reckoned, reckon_begins, reckon_goes_on, reckon_low, reckon_high, reckon_large, reckon_ends}
-use lib.ListN.{length}
-use Prim.Native.Nat.{◌-◌}
-use borrow.Author.Rules.{rules}
-use native.Mathlib.Omega.{arith}
+use Rattle.texts.proofs.Bytes.{reckon_begins, reckon_goes_on, reckon_low, reckon_high, reckon_large, reckon_ends}
 use Rattle.texts.proofs.value_of.Goals as goal
 
 pub loop-i-init : goal.loop-i-init

@@ -1,5 +1,4 @@
 use Rattle.tool.proofs.Printing.{accepted_small}
-use borrow.Author.Rules.{rules}
 use Rattle.tool.proofs.answer.Goals as goal
 
 pub netlist_counts-c-requires : goal.netlist_counts-c-requires

@@ -1,5 +1,4 @@
 use Rattle.tool.proofs.Printing.{printed_broken}
-use borrow.Author.Rules.{rules}
 use Rattle.tool.proofs.put_broken.Goals as goal
 
 pub returns : goal.returns

@@ -1,5 +1,4 @@
 use Rattle.tool.proofs.Printing.{first_within}
-use borrow.Author.Rules.{rules}
 use Rattle.tool.proofs.put_built.Goals as goal
 
 pub slice_bounds-put_lent-end-5 : goal.slice_bounds-put_lent-end-5

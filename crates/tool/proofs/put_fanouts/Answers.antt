@@ -1,5 +1,4 @@
 use Rattle.tool.proofs.Printing.{printed_fanouts}
-use borrow.Author.Rules.{rules}
 use Rattle.tool.proofs.put_fanouts.Goals as goal
 
 pub returns : goal.returns

@@ -1,5 +1,4 @@
 use Rattle.tool.proofs.Printing.{printed_pins}
-use borrow.Author.Rules.{rules}
 use Rattle.tool.proofs.put_pins.Goals as goal
 
 pub returns : goal.returns

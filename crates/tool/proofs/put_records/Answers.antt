@@ -1,5 +1,4 @@
 use Rattle.tool.proofs.Printing.{printed_records}
-use borrow.Author.Rules.{rules}
 use Rattle.tool.proofs.put_records.Goals as goal
 
 pub returns : goal.returns

@@ -1,5 +1,4 @@
 use Rattle.tool.proofs.Printing.{refused_line, refused_text}
-use borrow.Author.Rules.{rules}
 use Rattle.tool.proofs.put_refused.Goals as goal
 
 pub returns-then-k-eq17 : goal.returns-then-k-eq17

@@ -1,6 +1,4 @@
-use native.Mathlib.Omega.{arith}
 use Rattle.tool.proofs.Printing.{first_long}
-use borrow.Author.Rules.{rules}
 use Rattle.tool.proofs.put_used.Goals as goal
 
 pub slice_bounds-put_staged-end : goal.slice_bounds-put_staged-end

@@ -1,5 +1,4 @@
 use Rattle.tool.proofs.Printing.{words_record, words_order, words_number, words_shape}
-use borrow.Author.Rules.{rules}
 use Rattle.tool.proofs.put_words.Goals as goal
 
 pub returns-then-why-eq1 : goal.returns-then-why-eq1

@@ -1,6 +1,5 @@
 use Rattle.traverse.proofs.Early.{early_first, early_15, early_none}
 use borrow.Author.Tests.{not-true, not-false}
-use borrow.Author.Rules.{rules}
 use Rattle.traverse.proofs.early_number.Goals as goal
 
 pub returns-then-k-ne0 : goal.returns-then-k-ne0

@@ -1,6 +1,5 @@
 use Rattle.traverse.proofs.Early.{roots_none, roots_out, roots_in}
 use borrow.Author.Tests.{not-true, not-false}
-use borrow.Author.Rules.{rules}
 use Rattle.traverse.proofs.indexes_fit.Goals as goal
 
 pub returns-then-not-given : goal.returns-then-not-given

@@ -1,5 +1,4 @@
 use Rattle.traverse.proofs.Runs.{runs_given, runs_up}
-use borrow.Author.Rules.{rules}
 use Rattle.traverse.proofs.run.Goals as goal
 
 pub visit_all-requires : goal.visit_all-requires

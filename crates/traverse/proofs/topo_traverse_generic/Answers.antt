@@ -1,6 +1,5 @@
 use Rattle.traverse.proofs.Answers.{refused_early, stops_asks, refused_repeat, run_asks, count_fits, refused_room, listed}
-use borrow.Author.Tests.{not-true, not-false}
-use borrow.Author.Rules.{rules}
+use borrow.Author.Tests.{not-false}
 use Rattle.traverse.proofs.topo_traverse_generic.Goals as goal
 
 pub returns-then-k-ne0 : goal.returns-then-k-ne0

@@ -1,9 +1,6 @@
-use Rattle.traverse.proofs.Runs.{VisitingUp, up_begins, up_goes_on, up_ends}
+use Rattle.traverse.proofs.Runs.{up_begins, up_goes_on, up_ends}
 use borrow.Author.Rules.{rules}
 use native.Mathlib.Omega.{arith}
-use lib.ListN.{length}
-use mathlib.Core.Path.{◌≡◌}
-use Prim.Native.Nat.{◌≤◌, ◌-◌}
 use Rattle.traverse.proofs.visit_up.Goals as goal
 
 pub loop-p-init : goal.loop-p-init

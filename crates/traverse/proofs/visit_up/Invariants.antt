@@ -1,6 +1,4 @@
-use Rattle.traverse.proofs.Runs.{VisitingUp, up_begins, up_goes_on, up_ends}
-use borrow.Author.Rules.{rules}
-use native.Mathlib.Omega.{arith}
+use Rattle.traverse.proofs.Runs.{VisitingUp}
 use lib.ListN.{length}
 use mathlib.Core.Path.{◌≡◌}
 use Prim.Native.Nat.{◌≤◌, ◌-◌}

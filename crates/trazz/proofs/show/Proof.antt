@@ -2,9 +2,6 @@ use Rattle.tool.proofs.Printing.{first_long}
 use borrow.Author.Rules.{rules}
 use Rattle.trazz.proofs.show.Statement.{statement}
 use Rattle.trazz.proofs.show.Tie as tie
-use Rattle.trazz.proofs.show.Reads as reads
-use Rattle.trazz.proofs.show.Lts as lts
-use Rattle.io.proofs.write_all.Reads as write-all-reads
 
 -- src/main.rt:23:38
 slice-aggregate-write-all : tie.Need-slice-aggregate-write-all

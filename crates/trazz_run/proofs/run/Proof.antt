@@ -4,10 +4,6 @@ use native.Mathlib.Omega.{arith}
 use borrow.Author.Rules.{rules}
 use Rattle.trazz_run.proofs.run.Statement.{statement}
 use Rattle.trazz_run.proofs.run.Tie as tie
-use Rattle.trazz_run.proofs.run.Reads as reads
-use Rattle.trazz_run.proofs.run.Lts as lts
-use Rattle.io.proofs.write_all.Reads as write-all-reads
-use Rattle.trazz_run.proofs.print_text.Reads as print-text-reads
 
 abbrev invariant-loop : tie.invariant-loop
 invariant-loop all e₀ t3 e = e ≤ length all

@@ -4,10 +4,6 @@ use native.Mathlib.Omega.{arith}
 use borrow.Author.Rules.{rules}
 use Rattle.trazz_run.proofs.text_end.Statement.{statement}
 use Rattle.trazz_run.proofs.text_end.Tie as tie
-use Rattle.trazz_run.proofs.text_end.Reads as reads
-use Rattle.trazz_run.proofs.text_end.Lts as lts
-use Rattle.texts.proofs.is_word.Reads as is-word-reads
-use Rattle.texts.proofs.until.Reads as until-reads
 
 abbrev invariant-loop : tie.invariant-loop
 invariant-loop all at i₀ t5 i = (at ≤ i) × (i ≤ length all)

@@ -1,9 +1,7 @@
 use Rattle.turns.proofs.Turns.{turn_small, turn_pins, turn_count, turn_count_few, turn_pins_few, turn_last, turn_used, turn_set, turn_handed, turn_taken, turn_more}
-use Prim.Native.Nat.{◌-◌}
-use mathlib.Core.Path.{refl, ◌∙◌}
+use mathlib.Core.Path.{refl}
 use borrow.Author.Tests.{not-true, not-false}
 use native.Mathlib.Omega.{arith}
-use borrow.Author.Rules.{rules}
 use Rattle.turns.proofs.stage.Goals as goal
 
 pub cut-r-requires : goal.cut-r-requires

@@ -1,5 +1,5 @@
 use native.Mathlib.Omega.{arith}
-use Prim.Native.Nat.{ℕ, ◌+◌, ◌-◌}
+use Prim.Native.Nat.{◌+◌}
 use Rattle.unmarked.proofs.Freeing.{ends_behind, cell_span, cell_told}
 use borrow.Author.Rules.{rules}
 use Rattle.unmarked.proofs.cell_free.Goals as goal

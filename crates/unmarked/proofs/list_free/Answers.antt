@@ -1,10 +1,6 @@
-use Rattle.unmarked.specs.Free.{free_if}
-use Rattle.roles.specs.Reading.{tables, kind_at}
-use native.Mathlib.Omega.{arith}
-use Prim.Native.Nat.{ℕ, ◌+◌, ◌-◌}
 use borrow.Author.Tests.{not-true, not-false}
 use borrow.Author.Rules.{rules}
-use Rattle.unmarked.proofs.Freeing.{Trying, trying_begins, trying_ends, trying_fails, trying_goes_on, entry_below}
+use Rattle.unmarked.proofs.Freeing.{trying_begins, trying_ends, trying_fails, trying_goes_on, entry_below}
 use Rattle.unmarked.proofs.list_free.Goals as goal
 
 pub loop-i-init : goal.loop-i-init

@@ -1,10 +1,7 @@
 use Rattle.unmarked.specs.Free.{free_if}
 use Rattle.roles.specs.Reading.{tables, kind_at}
-use native.Mathlib.Omega.{arith}
-use Prim.Native.Nat.{ℕ, ◌+◌, ◌-◌}
-use borrow.Author.Tests.{not-true, not-false}
-use borrow.Author.Rules.{rules}
-use Rattle.unmarked.proofs.Freeing.{Trying, trying_begins, trying_ends, trying_fails, trying_goes_on, entry_below}
+use Prim.Native.Nat.{◌-◌}
+use Rattle.unmarked.proofs.Freeing.{Trying}
 use Rattle.unmarked.proofs.list_free.Given as goal
 
 abbrev pub invariant-loop-i : goal.invariant-loop-i

@@ -1,12 +1,8 @@
 use Rattle.unmarked.specs.Free.{cell_free}
 use Rattle.roles.specs.Reading.{tables}
-use native.Mathlib.Omega.{arith}
 use lib.ListN.{length}
-use Prim.Native.Nat.{ℕ, ◌+◌, ◌-◌}
-use borrow.Author.Tests.{not-true, not-false}
-use borrow.Author.Rules.{rules}
-use Rattle.laws.proofs.Scans.{Scanned, scan_begins, scan_goes_on}
-use Rattle.unmarked.proofs.Freeing.{cells_fail, cells_end}
+use Prim.Native.Nat.{◌-◌}
+use Rattle.laws.proofs.Scans.{Scanned}
 use Rattle.unmarked.proofs.markers_free.Given as goal
 
 abbrev pub invariant-loop-cell : goal.invariant-loop-cell

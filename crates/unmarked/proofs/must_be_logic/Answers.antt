@@ -1,5 +1,4 @@
 use Rattle.unmarked.proofs.Freeing.{logic_and, logic_none, logic_flop, logic_gate, logic_ram, logic_past}
-use borrow.Author.Rules.{rules}
 use Rattle.unmarked.proofs.must_be_logic.Goals as goal
 
 pub returns-then-kind-lt6 : goal.returns-then-kind-lt6

@@ -1,6 +1,5 @@
 use borrow.Author.Tests.{not-true, not-false}
 use Rattle.unmarked.proofs.Freeing.{free_not_asked, free_by_word}
-use borrow.Author.Rules.{rules}
 use Rattle.unmarked.proofs.pin_free.Goals as goal
 
 pub returns-then-not-must : goal.returns-then-not-must

@@ -1,5 +1,4 @@
 use Rattle.visits.proofs.Runs.{event_in, leaves_next, enters_next}
-use borrow.Author.Rules.{rules}
 use Rattle.visits.proofs.act.Goals as goal
 
 pub word-event-requires : goal.word-event-requires

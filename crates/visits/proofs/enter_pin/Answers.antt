@@ -1,6 +1,5 @@
 use Rattle.visits.proofs.Enters.{flop_start, enter_place, enter_flop, enter_idle}
 use Rattle.visits.proofs.Sorts.{fit_of, below_of, table_of, lists_of, dffs_room, dffs_now}
-use borrow.Author.Rules.{rules}
 use Rattle.visits.proofs.enter_pin.Goals as goal
 
 pub role-what-requires : goal.role-what-requires

@@ -1,5 +1,4 @@
 use Rattle.visits.proofs.Sorts.{enters_flop}
-use borrow.Author.Rules.{rules}
 use Rattle.visits.proofs.flop_entered.Goals as goal
 
 pub returns-in-DffOut : goal.returns-in-DffOut

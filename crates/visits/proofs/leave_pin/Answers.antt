@@ -1,6 +1,5 @@
 use Rattle.visits.proofs.Leaves.{leave_take, copy_in, leave_copy, port_in, output_in, leave_output, leave_input, first_place, second_place, leave_and, stored_cell, stored-own, leave_flop, read-start, read_place, leave_ram}
 use Rattle.visits.proofs.Sorts.{fit_of, below_of, table_of, lists_of, own_of, take_of, rams_room, rams_now, outputs_few}
-use borrow.Author.Rules.{rules}
 use Rattle.visits.proofs.leave_pin.Goals as goal
 
 pub role-what-requires : goal.role-what-requires

@@ -1,5 +1,4 @@
 use Rattle.visits.proofs.Sorts.{leaves_tied, leaves_wire, leaves_output, leaves_and, leaves_inv, leaves_buf, leaves_gate, leaves_flop, leaves_ram}
-use borrow.Author.Rules.{rules}
 use Rattle.visits.proofs.left_as.Goals as goal
 
 pub returns-in-Tied : goal.returns-in-Tied

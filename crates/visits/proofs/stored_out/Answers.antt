@@ -1,5 +1,4 @@
-use Rattle.visits.proofs.Leaves.{stored_in, own_small, stored-left}
-use borrow.Author.Rules.{rules}
+use Rattle.visits.proofs.Leaves.{own_small, stored-left}
 use Rattle.visits.proofs.stored_out.Goals as goal
 
 pub flop_out-requires : goal.flop_out-requires

@@ -1,12 +1,7 @@
 use Rattle.visits.proofs.Runs.{visits_few, visits_go_on, visits_stop, visits_end}
-use Rattle.visits.specs.Drafting.{Visiting}
-use Rattle.roles.specs.Reading.{tables}
 use borrow.Author.Tests.{not-true, not-false}
 use borrow.Author.Rules.{rules}
-use lib.ListN.{length}
 use native.Mathlib.Omega.{arith}
-use Prim.Native.Nat.{◌+◌, ◌-◌, ◌*◌, ◌≤◌}
-use mathlib.Core.Path.{◌≡◌}
 use Rattle.visits.proofs.visit_pins.Goals as goal
 
 pub loop-i-init : goal.loop-i-init

@@ -1,9 +1,7 @@
-use Rattle.walk.proofs.Forgets.{Forgetting, forget_begins, forget_goes_on, forget_ends, pin_at_lem, place_at}
+use Rattle.walk.proofs.Forgets.{forget_begins, forget_goes_on, forget_ends}
 use borrow.Author.Rules.{rules}
 use native.Mathlib.Omega.{arith}
-use lib.ListN.{length, length-set}
-use mathlib.Core.Path.{◌≡◌}
-use Prim.Native.Nat.{◌≤◌, ◌-◌}
+use lib.ListN.{length-set}
 use Rattle.walk.proofs.forget.Goals as goal
 
 pub loop-i-init : goal.loop-i-init

@@ -1,7 +1,5 @@
-use Rattle.walk.proofs.Forgets.{Forgetting, forget_begins, forget_goes_on, forget_ends, pin_at_lem, place_at}
-use borrow.Author.Rules.{rules}
-use native.Mathlib.Omega.{arith}
-use lib.ListN.{length, length-set}
+use Rattle.walk.proofs.Forgets.{Forgetting}
+use lib.ListN.{length}
 use mathlib.Core.Path.{◌≡◌}
 use Prim.Native.Nat.{◌≤◌, ◌-◌}
 use Rattle.walk.proofs.forget.Given as goal

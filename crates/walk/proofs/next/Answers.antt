@@ -1,5 +1,4 @@
 use Rattle.walk.proofs.Nexts.{at_source, at_stop, first_in, to_first, second_in, to_second, to_none}
-use borrow.Author.Rules.{rules}
 use Rattle.walk.proofs.next.Goals as goal
 
 pub returns-then-t-ne1 : goal.returns-then-t-ne1

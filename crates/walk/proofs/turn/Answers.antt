@@ -1,7 +1,6 @@
-use Rattle.walk.proofs.Turns.{operands_in, top_in, mark_at, list_at, push_at, turn_lists, turn_pushes}
+use Rattle.walk.proofs.Turns.{operands_in, top_in, mark_at, list_at, turn_lists, turn_pushes}
 use lib.ListN.{length-set}
 use native.Mathlib.Omega.{arith}
-use borrow.Author.Rules.{rules}
 use Rattle.walk.proofs.turn.Goals as goal
 
 pub next-x-requires : goal.next-x-requires

@@ -1,9 +1,6 @@
-use Rattle.walk.proofs.Visits.{Visiting, visited_before, visit_begins, visit_goes_on, visit_ends}
-use Rattle.walk.specs.State.{left}
+use Rattle.walk.proofs.Visits.{visited_before, visit_begins, visit_goes_on, visit_ends}
 use borrow.Author.Rules.{rules}
 use native.Mathlib.Omega.{arith}
-use lib.ListN.{length, length-set}
-use mathlib.Core.Path.{◌≡◌, ◌∙◌}
 use Rattle.walk.proofs.visit.Goals as goal
 
 pub returns-then-mark-ne0 : goal.returns-then-mark-ne0

@@ -1,9 +1,7 @@
-use Rattle.walk.proofs.Visits.{Visiting, visited_before, visit_begins, visit_goes_on, visit_ends}
+use Rattle.walk.proofs.Visits.{Visiting}
 use Rattle.walk.specs.State.{left}
-use borrow.Author.Rules.{rules}
-use native.Mathlib.Omega.{arith}
-use lib.ListN.{length, length-set}
-use mathlib.Core.Path.{◌≡◌, ◌∙◌}
+use lib.ListN.{length}
+use mathlib.Core.Path.{◌≡◌}
 use Rattle.walk.proofs.visit.Given as goal
 
 abbrev pub invariant-loop-h : goal.invariant-loop-h

@@ -1,10 +1,7 @@
-use Rattle.walk.proofs.Visits.{VisitingAll, visits_begin, visits_go_on, visits_end}
+use Rattle.walk.proofs.Visits.{visits_begin, visits_go_on, visits_end}
 use Rattle.laws.proofs.Words.{word_below}
 use borrow.Author.Rules.{rules}
 use native.Mathlib.Omega.{arith}
-use lib.ListN.{length}
-use mathlib.Core.Path.{◌≡◌}
-use Prim.Native.Nat.{◌≤◌, ◌-◌}
 use Rattle.walk.proofs.visit_all.Goals as goal
 
 pub loop-i-init : goal.loop-i-init

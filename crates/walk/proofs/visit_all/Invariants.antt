@@ -1,7 +1,4 @@
-use Rattle.walk.proofs.Visits.{VisitingAll, visits_begin, visits_go_on, visits_end}
-use Rattle.laws.proofs.Words.{word_below}
-use borrow.Author.Rules.{rules}
-use native.Mathlib.Omega.{arith}
+use Rattle.walk.proofs.Visits.{VisitingAll}
 use lib.ListN.{length}
 use mathlib.Core.Path.{◌≡◌}
 use Prim.Native.Nat.{◌≤◌, ◌-◌}

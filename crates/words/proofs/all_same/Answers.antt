@@ -1,10 +1,7 @@
 -- `words::all_same` meets its contract: the first i words of both tables agree.
-use Prim.Native.Nat.{◌≤◌, ◌-◌}
-use mathlib.Core.Path.{◌≡◌}
 use native.Mathlib.Omega.{arith}
 use borrow.Author.Rules.{rules}
-use lib.ListN.{length}
-use Rattle.words.proofs.Tables.{Agree, agree_begins, agree_goes_on, agree_ends, agree_fails, lengths_differ}
+use Rattle.words.proofs.Tables.{agree_begins, agree_goes_on, agree_ends, agree_fails, lengths_differ}
 use Rattle.words.proofs.all_same.Goals as goal
 
 pub returns-then-a-b : goal.returns-then-a-b

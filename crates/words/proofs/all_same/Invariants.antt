@@ -1,10 +1,8 @@
 -- `words::all_same` meets its contract: the first i words of both tables agree.
 use Prim.Native.Nat.{◌≤◌, ◌-◌}
 use mathlib.Core.Path.{◌≡◌}
-use native.Mathlib.Omega.{arith}
-use borrow.Author.Rules.{rules}
 use lib.ListN.{length}
-use Rattle.words.proofs.Tables.{Agree, agree_begins, agree_goes_on, agree_ends, agree_fails, lengths_differ}
+use Rattle.words.proofs.Tables.{Agree}
 use Rattle.words.proofs.all_same.Given as goal
 
 abbrev pub invariant-loop-i : goal.invariant-loop-i

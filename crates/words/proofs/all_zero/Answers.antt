@@ -1,8 +1,6 @@
 -- `words::all_zero` meets its contract: the first i words are 0.
-use Prim.Native.Nat.{◌≤◌, ◌-◌}
 use native.Mathlib.Omega.{arith}
-use lib.ListN.{length}
-use Rattle.words.proofs.Tables.{Unused, unused_begins, unused_goes_on, unused_ends, unused_fails}
+use Rattle.words.proofs.Tables.{unused_begins, unused_goes_on, unused_ends, unused_fails}
 use Rattle.words.proofs.all_zero.Goals as goal
 
 pub loop-i-init : goal.loop-i-init

@@ -1,8 +1,7 @@
 -- `words::copy` meets its contract: after i turns i words are copied.
-use Prim.Native.Nat.{◌≤◌, ◌-◌}
 use native.Mathlib.Omega.{arith}
 use borrow.Author.Rules.{rules}
-use Rattle.words.proofs.Tables.{Copying, copy_begins, copy_goes_on, copy_ends}
+use Rattle.words.proofs.Tables.{copy_begins, copy_goes_on, copy_ends}
 use Rattle.words.proofs.copy.Goals as goal
 
 pub loop-i-init : goal.loop-i-init

@@ -1,8 +1,6 @@
 -- `words::copy` meets its contract: after i turns i words are copied.
 use Prim.Native.Nat.{◌≤◌, ◌-◌}
-use native.Mathlib.Omega.{arith}
-use borrow.Author.Rules.{rules}
-use Rattle.words.proofs.Tables.{Copying, copy_begins, copy_goes_on, copy_ends}
+use Rattle.words.proofs.Tables.{Copying}
 use Rattle.words.proofs.copy.Given as goal
 
 abbrev pub invariant-loop-i : goal.invariant-loop-i

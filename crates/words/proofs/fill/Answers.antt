@@ -1,8 +1,7 @@
 -- `words::fill` meets its contract: after i turns i words are written.
-use Prim.Native.Nat.{◌≤◌, ◌-◌}
 use native.Mathlib.Omega.{arith}
 use borrow.Author.Rules.{rules}
-use Rattle.words.proofs.Tables.{Writing, writing_begins, fill_goes_on, fill_ends}
+use Rattle.words.proofs.Tables.{writing_begins, fill_goes_on, fill_ends}
 use Rattle.words.proofs.fill.Goals as goal
 
 pub loop-i-init : goal.loop-i-init

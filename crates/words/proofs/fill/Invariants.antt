@@ -1,8 +1,6 @@
 -- `words::fill` meets its contract: after i turns i words are written.
 use Prim.Native.Nat.{◌≤◌, ◌-◌}
-use native.Mathlib.Omega.{arith}
-use borrow.Author.Rules.{rules}
-use Rattle.words.proofs.Tables.{Writing, writing_begins, fill_goes_on, fill_ends}
+use Rattle.words.proofs.Tables.{Writing}
 use Rattle.words.proofs.fill.Given as goal
 
 abbrev pub invariant-loop-i : goal.invariant-loop-i

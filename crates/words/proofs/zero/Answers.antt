@@ -1,10 +1,7 @@
 -- `words::zero` meets its contract: after i turns the first i words are 0.
-use Prim.Native.Nat.{◌≤◌, ◌-◌}
-use mathlib.Core.Path.{◌≡◌}
 use native.Mathlib.Omega.{arith}
 use borrow.Author.Rules.{rules}
-use mathlib.Core.List.{◌++◌}
-use lib.ListN.{length, drop, replicate, length-set}
+use lib.ListN.{length-set}
 use Rattle.laws.proofs.Words.{filling_goes_on, filling_ends}
 use Rattle.words.proofs.zero.Goals as goal
 

@@ -1,5 +1,4 @@
 use Rattle.capi.proofs.ToldBuild.{starts_none, starts_all}
-use borrow.Author.Rules.{rules}
 use Rattle.capi.proofs.build.starts_asked.Goals as goal
 
 pub returns-then-room-lt5 : goal.returns-then-room-lt5

@@ -1,5 +1,4 @@
 use Rattle.capi.proofs.ToldBuild.{built_zeroed, built_made, built_refused}
-use borrow.Author.Rules.{rules}
 use Rattle.capi.proofs.build.tell_built.Goals as goal
 
 pub tell_made-requires : goal.tell_made-requires

@@ -1,5 +1,4 @@
 use Rattle.capi.proofs.ToldBuild.{made_short, made_done}
-use borrow.Author.Rules.{rules}
 use Rattle.capi.proofs.build.tell_made.Goals as goal
 
 pub returns-then-counts-lt5 : goal.returns-then-counts-lt5

@@ -1,7 +1,6 @@
 use Rattle.aig.specs.Building.{lent}
 use Rattle.capi.specs.Building.{netlist_of, rooms_of}
 use Rattle.capi.proofs.ToldBuild.{build-told}
-use borrow.Author.Rules.{rules}
 use Rattle.capi.proofs.build.trazz_build.Goals as goal
 
 pub returns : goal.returns

@@ -1,5 +1,4 @@
 use Rattle.capi.proofs.ToldEnds.{endpoint_told}
-use borrow.Author.Rules.{rules}
 use Rattle.capi.proofs.ends.trazz_endpoint.Goals as goal
 
 pub returns : goal.returns

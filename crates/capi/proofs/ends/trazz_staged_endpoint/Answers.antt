@@ -1,5 +1,4 @@
 use Rattle.capi.proofs.ToldEnds.{staged_told_lem}
-use borrow.Author.Rules.{rules}
 use Rattle.capi.proofs.ends.trazz_staged_endpoint.Goals as goal
 
 pub returns : goal.returns

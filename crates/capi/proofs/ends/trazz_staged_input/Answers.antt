@@ -1,5 +1,4 @@
 use Rattle.capi.proofs.ToldEnds.{staged_input_told}
-use borrow.Author.Rules.{rules}
 use Rattle.capi.proofs.ends.trazz_staged_input.Goals as goal
 
 pub returns : goal.returns

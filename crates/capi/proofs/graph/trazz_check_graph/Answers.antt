@@ -1,5 +1,4 @@
 use Rattle.capi.proofs.ToldGraph.{check-told}
-use borrow.Author.Rules.{rules}
 use Rattle.capi.proofs.graph.trazz_check_graph.Goals as goal
 
 pub returns : goal.returns

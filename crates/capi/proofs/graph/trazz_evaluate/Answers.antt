@@ -1,5 +1,4 @@
 use Rattle.capi.proofs.ToldGraph.{evaluate_told}
-use borrow.Author.Rules.{rules}
 use Rattle.capi.proofs.graph.trazz_evaluate.Goals as goal
 
 pub returns : goal.returns

@@ -1,5 +1,4 @@
 use Rattle.capi.proofs.ToldGraph.{fanouts-told}
-use borrow.Author.Rules.{rules}
 use Rattle.capi.proofs.graph.trazz_fanouts.Goals as goal
 
 pub returns : goal.returns

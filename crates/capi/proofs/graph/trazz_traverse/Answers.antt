@@ -1,5 +1,4 @@
 use Rattle.capi.proofs.ToldGraph.{traverse_told}
-use borrow.Author.Rules.{rules}
 use Rattle.capi.proofs.graph.trazz_traverse.Goals as goal
 
 pub returns : goal.returns

@@ -1,5 +1,4 @@
 use Rattle.capi.proofs.ToldStage.{split-told}
-use borrow.Author.Rules.{rules}
 use Rattle.capi.proofs.stage.trazz_split.Goals as goal
 
 pub returns : goal.returns

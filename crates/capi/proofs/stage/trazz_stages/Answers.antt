@@ -1,5 +1,4 @@
 use Rattle.capi.proofs.ToldStage.{stages-told}
-use borrow.Author.Rules.{rules}
 use Rattle.capi.proofs.stage.trazz_stages.Goals as goal
 
 pub returns : goal.returns

@@ -1,5 +1,5 @@
 use native.Mathlib.Omega.{arith}
-use Prim.Native.Nat.{ℕ, ◌+◌, ◌-◌}
+use Prim.Native.Nat.{◌+◌}
 use Rattle.clocks.proofs.Numbering.{ends_behind, cell_span, cell_told}
 use borrow.Author.Rules.{rules}
 use Rattle.clocks.proofs.numbers.cell_number.Goals as goal

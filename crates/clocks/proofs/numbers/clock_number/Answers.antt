@@ -1,6 +1,5 @@
 use borrow.Author.Tests.{not-true, not-false}
 use Rattle.clocks.proofs.Numbering.{number-none, number-walk}
-use borrow.Author.Rules.{rules}
 use Rattle.clocks.proofs.numbers.clock_number.Goals as goal
 
 pub returns-then-not-clock : goal.returns-then-not-clock

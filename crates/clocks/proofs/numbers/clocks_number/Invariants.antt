@@ -1,8 +1,6 @@
-use native.Mathlib.Omega.{arith}
 use lib.ListN.{length}
-use Prim.Native.Nat.{ℕ, ◌+◌, ◌-◌}
-use borrow.Author.Rules.{rules}
-use Rattle.clocks.proofs.Numbering.{Numbered, numbered_begins, numbered_ends, numbered_fails, numbered_goes_on}
+use Prim.Native.Nat.{◌-◌}
+use Rattle.clocks.proofs.Numbering.{Numbered}
 use Rattle.clocks.proofs.numbers.clocks_number.Given as goal
 
 abbrev pub invariant-loop-cell : goal.invariant-loop-cell

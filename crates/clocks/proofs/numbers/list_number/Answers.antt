@@ -1,9 +1,5 @@
-use Rattle.clocks.specs.Walks.{number_if}
-use Rattle.roles.specs.Reading.{tables, kind_at}
-use native.Mathlib.Omega.{arith}
-use Prim.Native.Nat.{ℕ, ◌+◌, ◌-◌}
 use borrow.Author.Rules.{rules}
-use Rattle.clocks.proofs.Numbering.{Trying, trying_begins, trying_ends, trying_fails, trying_goes_on, span_below}
+use Rattle.clocks.proofs.Numbering.{trying_begins, trying_ends, trying_fails, trying_goes_on, span_below}
 use Rattle.clocks.proofs.numbers.list_number.Goals as goal
 
 pub loop-i-init : goal.loop-i-init

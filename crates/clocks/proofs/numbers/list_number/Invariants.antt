@@ -1,9 +1,7 @@
 use Rattle.clocks.specs.Walks.{number_if}
 use Rattle.roles.specs.Reading.{tables, kind_at}
-use native.Mathlib.Omega.{arith}
-use Prim.Native.Nat.{ℕ, ◌+◌, ◌-◌}
-use borrow.Author.Rules.{rules}
-use Rattle.clocks.proofs.Numbering.{Trying, trying_begins, trying_ends, trying_fails, trying_goes_on, span_below}
+use Prim.Native.Nat.{◌-◌}
+use Rattle.clocks.proofs.Numbering.{Trying}
 use Rattle.clocks.proofs.numbers.list_number.Given as goal
 
 abbrev pub invariant-loop-i : goal.invariant-loop-i

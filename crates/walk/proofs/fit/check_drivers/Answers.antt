@@ -1,8 +1,7 @@
-use Rattle.walk.proofs.Fits.{Fit, fit_begins, fit_goes_on, fit_fails, fit_ends}
+use Rattle.walk.proofs.Fits.{fit_begins, fit_goes_on, fit_fails, fit_ends}
 use borrow.Author.Tests.{not-true, not-false}
 use borrow.Author.Rules.{rules}
 use native.Mathlib.Omega.{arith}
-use Prim.Native.Nat.{◌≤◌, ◌-◌, ◌+◌}
 use Rattle.walk.proofs.fit.check_drivers.Goals as goal
 
 pub loop-u-init : goal.loop-u-init

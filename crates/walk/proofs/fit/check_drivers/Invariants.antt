@@ -1,7 +1,4 @@
-use Rattle.walk.proofs.Fits.{Fit, fit_begins, fit_goes_on, fit_fails, fit_ends}
-use borrow.Author.Tests.{not-true, not-false}
-use borrow.Author.Rules.{rules}
-use native.Mathlib.Omega.{arith}
+use Rattle.walk.proofs.Fits.{Fit}
 use Prim.Native.Nat.{◌≤◌, ◌-◌, ◌+◌}
 use Rattle.walk.proofs.fit.check_drivers.Given as goal
 

@@ -1,5 +1,4 @@
 use Rattle.walk.proofs.Fits.{words_say}
-use borrow.Author.Rules.{rules}
 use Rattle.walk.proofs.fit.driver_fits.Goals as goal
 
 pub returns : goal.returns

@@ -1,6 +1,5 @@
 use Rattle.walk.proofs.Numbers.{number_pins, number_counts, number_long, number_lengths, number_drivers, number-none}
 use borrow.Author.Tests.{not-true, not-false}
-use borrow.Author.Rules.{rules}
 use Rattle.walk.proofs.fit.drivers_number.Goals as goal
 
 pub returns-then-pins-gt16777215 : goal.returns-then-pins-gt16777215

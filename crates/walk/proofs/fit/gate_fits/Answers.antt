@@ -1,6 +1,5 @@
-use borrow.Author.Tests.{not-true, not-false}
+use borrow.Author.Tests.{not-true}
 use Rattle.walk.proofs.Fits.{gate_first_lem, gate_second, gate-both}
-use borrow.Author.Rules.{rules}
 use Rattle.walk.proofs.fit.gate_fits.Goals as goal
 
 pub returns-then-not-operand_fits : goal.returns-then-not-operand_fits

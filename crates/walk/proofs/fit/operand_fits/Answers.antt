@@ -1,5 +1,4 @@
 use Rattle.walk.proofs.Fits.{operand_low, operand_high}
-use borrow.Author.Rules.{rules}
 use Rattle.walk.proofs.fit.operand_fits.Goals as goal
 
 pub returns-then-p-lt1 : goal.returns-then-p-lt1

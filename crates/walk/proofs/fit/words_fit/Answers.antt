@@ -1,5 +1,4 @@
 use Rattle.walk.proofs.Fits.{by_tag, port_tag, flag_tag, dff_tag, ram_tag, no_tag_fits}
-use borrow.Author.Rules.{rules}
 use Rattle.walk.proofs.fit.words_fit.Goals as goal
 
 pub returns-in-0 : goal.returns-in-0

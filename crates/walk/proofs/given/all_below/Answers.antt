@@ -1,8 +1,6 @@
-use Rattle.walk.proofs.Handed.{Below, below_begins, below_goes_on, below_fails, below_ends}
+use Rattle.walk.proofs.Handed.{below_begins, below_goes_on, below_fails, below_ends}
 use borrow.Author.Rules.{rules}
 use native.Mathlib.Omega.{arith}
-use lib.ListN.{length}
-use Prim.Native.Nat.{◌≤◌, ◌-◌}
 use Rattle.walk.proofs.given.all_below.Goals as goal
 
 pub loop-i-init : goal.loop-i-init

@@ -1,6 +1,4 @@
-use Rattle.walk.proofs.Handed.{Below, below_begins, below_goes_on, below_fails, below_ends}
-use borrow.Author.Rules.{rules}
-use native.Mathlib.Omega.{arith}
+use Rattle.walk.proofs.Handed.{Below}
 use lib.ListN.{length}
 use Prim.Native.Nat.{◌≤◌, ◌-◌}
 use Rattle.walk.proofs.given.all_below.Given as goal

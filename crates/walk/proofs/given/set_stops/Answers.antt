@@ -1,9 +1,8 @@
-use Rattle.walk.proofs.Handed.{Setting, setting_begins, setting_goes_on, setting_ends, pin_in, stop_at, met_low}
+use Rattle.walk.proofs.Handed.{setting_begins, setting_goes_on, setting_ends, pin_in, stop_at, met_low}
 use borrow.Author.Rules.{rules}
 use native.Mathlib.Omega.{arith}
-use lib.ListN.{length, length-set}
-use mathlib.Core.Path.{◌≡◌}
-use Prim.Native.Nat.{◌<◌, ◌≤◌, ◌-◌}
+use lib.ListN.{length-set}
+use Prim.Native.Nat.{◌<◌, ◌≤◌}
 use Rattle.walk.proofs.given.set_stops.Goals as goal
 
 pub loop-i-init : goal.loop-i-init

@@ -1,9 +1,7 @@
-use Rattle.walk.proofs.Handed.{Setting, setting_begins, setting_goes_on, setting_ends, pin_in, stop_at, met_low}
-use borrow.Author.Rules.{rules}
-use native.Mathlib.Omega.{arith}
-use lib.ListN.{length, length-set}
+use Rattle.walk.proofs.Handed.{Setting}
+use lib.ListN.{length}
 use mathlib.Core.Path.{◌≡◌}
-use Prim.Native.Nat.{◌<◌, ◌≤◌, ◌-◌}
+use Prim.Native.Nat.{◌≤◌, ◌-◌}
 use Rattle.walk.proofs.given.set_stops.Given as goal
 
 abbrev pub invariant-loop-i : goal.invariant-loop-i
