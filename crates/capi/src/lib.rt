@@ -2,6 +2,6 @@
 #![tactic(auto)]
 
 pub mod build;
-pub mod ends;
+pub mod endpoints;
 pub mod graph;
 pub mod stage;

@@ -1,5 +1,5 @@
 use Rattle.capi.proofs.ToldEnds.{endpoint_told}
-use Rattle.capi.proofs.ends.trazz_endpoint.Goals as goal
+use Rattle.capi.proofs.endpoints.trazz_endpoint.Goals as goal
 
 pub returns : goal.returns
 returns c = search endpoint_told

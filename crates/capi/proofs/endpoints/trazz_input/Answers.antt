@@ -1,5 +1,5 @@
 use Rattle.capi.proofs.ToldEnds.{input_told}
-use Rattle.capi.proofs.ends.trazz_input.Goals as goal
+use Rattle.capi.proofs.endpoints.trazz_input.Goals as goal
 
 pub returns : goal.returns
 returns c = search input_told
