@@ -1,10 +1,13 @@
 // Runs document 01's graph cases through the public calls, on tables that start full of other words, and prints what they answer.
+#![tactic(auto)]
+
 use evaluate::evaluate;
 use fanouts::fanouts;
 use graphs::check_graph;
 use inputs::{endpoint_input, staged_input};
 use prints::print_words;
 use rules::{Done, Endpoint, Found, GraphCounts, Listed, Read};
+use std::io;
 use subsets::{get_endpoint_group, staged_endpoint_group};
 use traverse::topo_traverse_generic;
 use words::all_zero;
@@ -36,16 +39,17 @@ fn left(work: &[u32]) -> u32 {
 }
 
 fn check(
+    rt: &impl Print,
     label: &[u8],
     c: GraphCounts,
     drivers: &[u32],
     outputs: &[u32],
     dffs: &[u32],
     rams: &[u32],
-) {
+) -> io::Result<()> {
     let mut work = [7u32; 400];
     let k = number(check_graph(c, drivers, outputs, dffs, rams, &mut work));
-    print_words(label, &[k, left(&work)]);
+    print_words(rt, label, &[k, left(&work)])
 }
 
 fn counts(pins: u32, outputs: u32, dffs: u32, rams: u32) -> GraphCounts {
@@ -58,229 +62,283 @@ fn counts(pins: u32, outputs: u32, dffs: u32, rams: u32) -> GraphCounts {
 }
 
 // A graph of one gate, with its three words and pin 0's first.
-fn gate(label: &[u8], first: u32, tag: u32, a: u32, b: u32) {
+fn gate(rt: &impl Print, label: &[u8], first: u32, tag: u32, a: u32, b: u32) -> io::Result<()> {
     check(
+        rt,
         label,
         counts(3, 0, 0, 0),
         &[first, 0, 0, 2, 0, 0, 2, 1, 0, tag, a, b],
         &[],
         &[],
         &[],
-    );
+    )
 }
 
-fn checks() {
-    check(b"m9", counts(7, 1, 0, 0), &M9, &[14], &[], &[]);
-    gate(b"gate", 0, 1, 3, 5);
-    gate(b"pin 0 a port", 2, 1, 3, 5);
-    gate(b"another constant", 0, 0, 0, 0);
-    gate(b"operand its own pin", 0, 1, 3, 6);
-    gate(b"operand pin 0", 0, 1, 1, 5);
-    gate(b"larger first", 0, 1, 5, 3);
-    gate(b"equal operands", 0, 1, 4, 4);
-    gate(b"no such tag", 0, 6, 3, 5);
-    gate(b"unused word", 0, 2, 3, 5);
-    gate(b"no such edge", 0, 3, 3, 2);
+fn checks(rt: &impl Print) -> io::Result<()> {
+    check(rt, b"m9", counts(7, 1, 0, 0), &M9, &[14], &[], &[])?;
+    gate(rt, b"gate", 0, 1, 3, 5)?;
+    gate(rt, b"pin 0 a port", 2, 1, 3, 5)?;
+    gate(rt, b"another constant", 0, 0, 0, 0)?;
+    gate(rt, b"operand its own pin", 0, 1, 3, 6)?;
+    gate(rt, b"operand pin 0", 0, 1, 1, 5)?;
+    gate(rt, b"larger first", 0, 1, 5, 3)?;
+    gate(rt, b"equal operands", 0, 1, 4, 4)?;
+    gate(rt, b"no such tag", 0, 6, 3, 5)?;
+    gate(rt, b"unused word", 0, 2, 3, 5)?;
+    gate(rt, b"no such edge", 0, 3, 3, 2)
 }
 
 // A flip-flop with two literals and a pin, and a RAM with two read-data pins.
-fn records(label: &[u8], next: u32, pin: u32, first: u32, second: u32) {
+fn records(
+    rt: &impl Print,
+    label: &[u8],
+    next: u32,
+    pin: u32,
+    first: u32,
+    second: u32,
+) -> io::Result<()> {
     let mut ram = [0u32; 123];
     ram[14] = first;
     ram[45] = second;
     check(
+        rt,
         label,
         counts(5, 1, 1, 1),
         &FLOP,
         &[4],
         &[next, 2, pin],
         &ram,
-    );
+    )
 }
 
-fn record_checks() {
-    records(b"records", 4, 3, 4, 5);
-    records(b"flip-flop pin past", 4, 6, 4, 5);
-    records(b"flip-flop pin of a port", 4, 2, 4, 5);
-    records(b"next past", 12, 3, 4, 5);
-    records(b"read data twice", 4, 3, 4, 4);
-    records(b"read data missing", 4, 3, 4, 0);
-    records(b"read data of the flip-flop", 4, 3, 3, 5);
+fn record_checks(rt: &impl Print) -> io::Result<()> {
+    records(rt, b"records", 4, 3, 4, 5)?;
+    records(rt, b"flip-flop pin past", 4, 6, 4, 5)?;
+    records(rt, b"flip-flop pin of a port", 4, 2, 4, 5)?;
+    records(rt, b"next past", 12, 3, 4, 5)?;
+    records(rt, b"read data twice", 4, 3, 4, 4)?;
+    records(rt, b"read data missing", 4, 3, 4, 0)?;
+    records(rt, b"read data of the flip-flop", 4, 3, 3, 5)?;
     check(
+        rt,
         b"output twice",
         counts(7, 2, 0, 0),
         &M9,
         &[14, 14],
         &[],
         &[],
-    );
-    check(b"output past", counts(7, 1, 0, 0), &M9, &[16], &[], &[]);
-    check(b"short table", counts(8, 1, 0, 0), &M9, &[14], &[], &[]);
+    )?;
+    check(rt, b"output past", counts(7, 1, 0, 0), &M9, &[16], &[], &[])?;
+    check(rt, b"short table", counts(8, 1, 0, 0), &M9, &[14], &[], &[])?;
     check(
+        rt,
         b"too many pins",
         counts(16777216, 1, 0, 0),
         &M9,
         &[14],
         &[],
         &[],
-    );
+    )?;
     check(
+        rt,
         b"too many outputs",
         counts(7, 1048577, 0, 0),
         &M9,
         &[14],
         &[],
         &[],
-    );
+    )
 }
 
-fn traverse(label: &[u8], given: bool, roots: &[u32], handed: &[u32], order: &mut [u32]) {
+fn traverse(
+    rt: &impl Print,
+    label: &[u8],
+    given: bool,
+    roots: &[u32],
+    handed: &[u32],
+    order: &mut [u32],
+) -> io::Result<()> {
     let mut work = [7u32; 160];
     let k = match topo_traverse_generic(&M9, 7, given, roots, handed, order, &mut work) {
         Listed::Pins(_) => 0,
         Listed::Refused(n) => n,
     };
-    print_words(label, &[k, left(&work)]);
-    print_words(b"  order", order);
+    print_words(rt, label, &[k, left(&work)])?;
+    print_words(rt, b"  order", order)
 }
 
-fn traversals() {
+fn traversals(rt: &impl Print) -> io::Result<()> {
     let mut order = [7u32; 8];
-    traverse(b"from 7", true, &[7], &[], &mut order);
-    traverse(b"from all", false, &[], &[], &mut order);
-    traverse(b"from 6 and 7 behind 5", true, &[6, 7], &[5], &mut order);
-    traverse(b"from 0", true, &[0, 2, 0], &[], &mut order);
-    traverse(b"from none", true, &[], &[], &mut order);
-    traverse(b"out of range", true, &[8], &[], &mut order);
-    traverse(b"handed on twice", true, &[7], &[5, 5], &mut order);
+    traverse(rt, b"from 7", true, &[7], &[], &mut order)?;
+    traverse(rt, b"from all", false, &[], &[], &mut order)?;
+    traverse(
+        rt,
+        b"from 6 and 7 behind 5",
+        true,
+        &[6, 7],
+        &[5],
+        &mut order,
+    )?;
+    traverse(rt, b"from 0", true, &[0, 2, 0], &[], &mut order)?;
+    traverse(rt, b"from none", true, &[], &[], &mut order)?;
+    traverse(rt, b"out of range", true, &[8], &[], &mut order)?;
+    traverse(rt, b"handed on twice", true, &[7], &[5, 5], &mut order)?;
     let mut seven = [7u32; 7];
-    traverse(b"exactly the room", true, &[7], &[], &mut seven);
+    traverse(rt, b"exactly the room", true, &[7], &[], &mut seven)?;
     let mut six = [7u32; 6];
-    traverse(b"one word short", true, &[7], &[], &mut six);
+    traverse(rt, b"one word short", true, &[7], &[], &mut six)
 }
 
-fn values(label: &[u8], sources: &[u32]) {
+fn values(rt: &impl Print, label: &[u8], sources: &[u32]) -> io::Result<()> {
     let mut bits = [7u32; 8];
     let k = number(evaluate(&M9, 7, sources, &mut bits));
-    print_words(label, &[k]);
-    print_words(b"  bits", &bits);
+    print_words(rt, label, &[k])?;
+    print_words(rt, b"  bits", &bits)
 }
 
-fn fans(label: &[u8], drivers: &[u32], lists: &mut [u32]) {
+fn fans(rt: &impl Print, label: &[u8], drivers: &[u32], lists: &mut [u32]) -> io::Result<()> {
     let mut starts = [7u32; 9];
     let k = number(fanouts(drivers, 7, &mut starts, lists));
-    print_words(label, &[k]);
-    print_words(b"  starts", &starts);
-    print_words(b"  lists", lists);
+    print_words(rt, label, &[k])?;
+    print_words(rt, b"  starts", &starts)?;
+    print_words(rt, b"  lists", lists)
 }
 
-fn fan_cases() {
+fn fan_cases(rt: &impl Print) -> io::Result<()> {
     let mut eight = [7u32; 8];
-    fans(b"fanouts of m9", &M9, &mut eight);
+    fans(rt, b"fanouts of m9", &M9, &mut eight)?;
     let mut five = [7u32; 5];
-    fans(b"one word short", &M9, &mut five);
-    fans(b"wrong length", &M1, &mut eight);
+    fans(rt, b"one word short", &M9, &mut five)?;
+    fans(rt, b"wrong length", &M1, &mut eight)
 }
 
 // An endpoint as two words: its case and its index; a refusal as 9 and its number.
-fn print_group(label: &[u8], f: Found) {
+fn print_group(rt: &impl Print, label: &[u8], f: Found) -> io::Result<()> {
     match f {
         Found::At(e) => match e {
-            Endpoint::Output(k) => print_words(label, &[0, k]),
-            Endpoint::Flop(k) => print_words(label, &[1, k]),
-            Endpoint::Memory(k) => print_words(label, &[2, k]),
-            Endpoint::Handed(p) => print_words(label, &[3, p]),
+            Endpoint::Output(k) => print_words(rt, label, &[0, k]),
+            Endpoint::Flop(k) => print_words(rt, label, &[1, k]),
+            Endpoint::Memory(k) => print_words(rt, label, &[2, k]),
+            Endpoint::Handed(p) => print_words(rt, label, &[3, p]),
         },
-        Found::Refused(n) => print_words(label, &[9, n]),
+        Found::Refused(n) => print_words(rt, label, &[9, n]),
     }
 }
 
-fn print_read(label: &[u8], r: Read) {
+fn print_read(rt: &impl Print, label: &[u8], r: Read) -> io::Result<()> {
     match r {
-        Read::Pin(p) => print_words(label, &[0, p]),
-        Read::Refused(n) => print_words(label, &[9, n]),
+        Read::Pin(p) => print_words(rt, label, &[0, p]),
+        Read::Refused(n) => print_words(rt, label, &[9, n]),
     }
 }
 
 // An output, a flip-flop that reads a constant and pin 2, and a RAM that reads pins 1 and 2.
-fn lookups() {
+fn lookups(rt: &impl Print) -> io::Result<()> {
     let c = counts(5, 1, 1, 1);
     let mut ram = [0u32; 123];
     ram[0] = 2;
     ram[60] = 5;
-    print_group(b"endpoint 0", get_endpoint_group(c, 0));
-    print_group(b"endpoint 1", get_endpoint_group(c, 1));
-    print_group(b"endpoint 2", get_endpoint_group(c, 2));
-    print_group(b"endpoint 3", get_endpoint_group(c, 3));
+    print_group(rt, b"endpoint 0", get_endpoint_group(c, 0))?;
+    print_group(rt, b"endpoint 1", get_endpoint_group(c, 1))?;
+    print_group(rt, b"endpoint 2", get_endpoint_group(c, 2))?;
+    print_group(rt, b"endpoint 3", get_endpoint_group(c, 3))?;
     print_read(
+        rt,
         b"input 0 of the output",
         endpoint_input(c, &[4], &[5, 0, 3], &ram, 0, 0),
-    );
+    )?;
     print_read(
+        rt,
         b"input 1 of the output",
         endpoint_input(c, &[4], &[5, 0, 3], &ram, 0, 1),
-    );
+    )?;
     print_read(
+        rt,
         b"input 0 of the flip-flop",
         endpoint_input(c, &[4], &[5, 0, 3], &ram, 1, 0),
-    );
+    )?;
     print_read(
+        rt,
         b"input 0 of the RAM",
         endpoint_input(c, &[4], &[5, 0, 3], &ram, 2, 0),
-    );
+    )?;
     print_read(
+        rt,
         b"input 1 of the RAM",
         endpoint_input(c, &[4], &[5, 0, 3], &ram, 2, 1),
-    );
+    )?;
     print_read(
+        rt,
         b"input 2 of the RAM",
         endpoint_input(c, &[4], &[5, 0, 3], &ram, 2, 2),
-    );
+    )?;
     print_read(
+        rt,
         b"input of endpoint 3",
         endpoint_input(c, &[4], &[5, 0, 3], &ram, 3, 0),
-    );
+    )?;
     print_read(
+        rt,
         b"short table",
         endpoint_input(c, &[], &[5, 0, 3], &ram, 0, 0),
-    );
+    )
 }
 
 // A stage that hands on pins 4 and 0 and takes endpoints 2 and 7.
-fn stage_lookups() {
+fn stage_lookups(rt: &impl Print) -> io::Result<()> {
     let c = counts(5, 1, 1, 1);
     let mut ram = [0u32; 123];
     ram[0] = 2;
-    print_group(b"place 0", staged_endpoint_group(c, &[4, 0], &[2, 7], 0));
-    print_group(b"place 2", staged_endpoint_group(c, &[4, 0], &[2, 7], 2));
-    print_group(b"place 3", staged_endpoint_group(c, &[4, 0], &[2, 7], 3));
-    print_group(b"place 4", staged_endpoint_group(c, &[4, 0], &[2, 7], 4));
+    print_group(
+        rt,
+        b"place 0",
+        staged_endpoint_group(c, &[4, 0], &[2, 7], 0),
+    )?;
+    print_group(
+        rt,
+        b"place 2",
+        staged_endpoint_group(c, &[4, 0], &[2, 7], 2),
+    )?;
+    print_group(
+        rt,
+        b"place 3",
+        staged_endpoint_group(c, &[4, 0], &[2, 7], 3),
+    )?;
+    print_group(
+        rt,
+        b"place 4",
+        staged_endpoint_group(c, &[4, 0], &[2, 7], 4),
+    )?;
     print_read(
+        rt,
         b"input of place 0",
         staged_input(c, &[4], &[5, 0, 3], &ram, &[4, 0], &[2, 7], 0, 0),
-    );
+    )?;
     print_read(
+        rt,
         b"input of place 1",
         staged_input(c, &[4], &[5, 0, 3], &ram, &[4, 0], &[2, 7], 1, 0),
-    );
+    )?;
     print_read(
+        rt,
         b"input of place 2",
         staged_input(c, &[4], &[5, 0, 3], &ram, &[4, 0], &[2, 7], 2, 0),
-    );
+    )?;
     print_read(
+        rt,
         b"input of place 3",
         staged_input(c, &[4], &[5, 0, 3], &ram, &[4, 0], &[2, 7], 3, 0),
-    );
+    )
 }
 
-fn main() {
-    checks();
-    record_checks();
-    traversals();
-    values(b"all ones", &[0, 1, 1, 1, 1, 0, 0, 0]);
-    values(b"source 3 zero", &[0, 1, 1, 0, 1, 0, 0, 0]);
-    values(b"too few sources", &[0, 1, 1, 1]);
-    fan_cases();
-    lookups();
-    stage_lookups();
+fn main(rt: HostRuntime) -> io::Result<()> {
+    checks(&rt)?;
+    record_checks(&rt)?;
+    traversals(&rt)?;
+    values(&rt, b"all ones", &[0, 1, 1, 1, 1, 0, 0, 0])?;
+    values(&rt, b"source 3 zero", &[0, 1, 1, 0, 1, 0, 0, 0])?;
+    values(&rt, b"too few sources", &[0, 1, 1, 1])?;
+    fan_cases(&rt)?;
+    lookups(&rt)?;
+    stage_lookups(&rt)
 }

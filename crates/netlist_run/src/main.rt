@@ -7,11 +7,14 @@
 // netlist at hand with these words changed, and the answers that are expected of the two calls. The words of a netlist: the
 // counts of cells, pins and nets from 0; the lengths of kinds, starts, list, pins, nets and work from 3; kinds from 16, starts
 // from 272, list from 544, pins from 1056, nets from 3616.
+#![tactic(auto)]
+
 ghost use Rattle.std.specs.Prelude.{◌≡◌, ◌<◌, ◌≤◌, length};
 
 use checks::{check_all, check_netlist};
-use prints::print_words;
+use prints::{print_words, read_full};
 use rules::NetlistCounts;
+use std::io;
 use words::{all_zero, copy};
 
 // A number of the text, and where the text goes on.
@@ -157,70 +160,86 @@ fn tally(seen: &mut [u32; 11], number: u32) {
 }
 
 // A call on a netlist, counted and compared.
-fn compare(words: &[u32; 4128], all: bool, expected: u32, at: usize, seen: &mut [u32; 11]) {
+fn compare(
+    rt: &impl Print,
+    words: &[u32; 4128],
+    all: bool,
+    expected: u32,
+    at: usize,
+    seen: &mut [u32; 11],
+) -> io::Result<()> {
     let number = answer(words, all);
     tally(seen, number);
     if number != expected {
-        print_words(b"not as expected", &[low(at as u64), expected, number]);
+        print_words(rt, b"not as expected", &[low(at as u64), expected, number])?;
     }
+    Ok(())
 }
 
 // A case. Answers where the text goes on.
 fn run_case(
+    rt: &impl Print,
     text: &[u8],
     at: usize,
     base: &[u32; 4128],
     nine: &mut [u32; 11],
     ten: &mut [u32; 11],
-) -> usize {
+) -> io::Result<usize> {
     let first = number(text, at);
     let second = number(text, first.next);
     let mut words = [0u32; 4128];
     copy(base, 0, &mut words, 0, 4128);
     let next = change_words(text, second.next, &mut words);
-    compare(&words, false, first.value, at, nine);
-    compare(&words, true, second.value, at, ten);
-    next
+    compare(rt, &words, false, first.value, at, nine)?;
+    compare(rt, &words, true, second.value, at, ten)?;
+    Ok(next)
 }
 
 // A record. Answers where the text goes on.
 fn run_record(
+    rt: &impl Print,
     text: &[u8],
     at: usize,
     base: &mut [u32; 4128],
     nine: &mut [u32; 11],
     ten: &mut [u32; 11],
-) -> usize {
+) -> io::Result<usize> {
     let sort = number(text, at);
     if sort.value == 0 {
-        return write_words(text, sort.next, base);
+        return Ok(write_words(text, sort.next, base));
     }
-    run_case(text, sort.next, base, nine, ten)
+    run_case(rt, text, sort.next, base, nine, ten)
 }
 
-fn run_all(text: &[u8], nine: &mut [u32; 11], ten: &mut [u32; 11]) {
+fn run_all(
+    rt: &impl Print,
+    text: &[u8],
+    nine: &mut [u32; 11],
+    ten: &mut [u32; 11],
+) -> io::Result<()> {
     let mut base = [0u32; 4128];
     let records = number(text, 0);
     let n = records.value;
     let mut next = records.next;
     let mut i = 0;
     while i < n {
-        next = run_record(text, next, &mut base, nine, ten);
+        next = run_record(rt, text, next, &mut base, nine, ten)?;
         i += 1;
     }
+    Ok(())
 }
 
-fn print_tally(label: &[u8], seen: &[u32; 11]) {
-    print_words(label, seen);
+fn print_tally(rt: &impl Print, label: &[u8], seen: &[u32; 11]) -> io::Result<()> {
+    print_words(rt, label, seen)
 }
 
 // All records, and how often each number was answered.
-fn run(text: &[u8]) {
+fn run(rt: &impl Print, text: &[u8]) -> io::Result<()> {
     let mut nine = [0u32; 11];
     let mut ten = [0u32; 11];
-    run_all(text, &mut nine, &mut ten);
-    print_tally(b"check_netlist", &nine);
-    print_tally(b"check_all", &ten);
+    run_all(rt, text, &mut nine, &mut ten)?;
+    print_tally(rt, b"check_netlist", &nine)?;
+    print_tally(rt, b"check_all", &ten)
 }
 
 fn room() -> [u8; 131072]
@@ -229,8 +248,9 @@ fn room() -> [u8; 131072]
     [0; 131072]
 }
 
-fn main() {
+fn main(rt: HostRuntime) -> io::Result<()> {
     let mut text = room();
-    let n = io::read_full(0, &mut text);
-    run(&text[..n]);
+    let mut input = rt.reader();
+    let n = read_full(&mut input, &mut text)?;
+    run(&rt, &text[..n])
 }

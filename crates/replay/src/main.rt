@@ -7,11 +7,14 @@
 // in blocks of 16384 bytes. The words of a netlist lie in one buffer: the counts from 0 (cells, pins, nets; graph pins, gates,
 // output literals, flip-flops, RAMs, fanouts), kinds from 16, starts from 96, list from 192, pins from 448, nets from 1728; then,
 // 1024 words each, drivers from 2048, outputs, dffs, rams, literals, fanout starts and fanouts.
+#![tactic(auto)]
+
 ghost use Rattle.std.specs.Prelude.{◌≡◌, ◌<◌, ◌≤◌, length};
 
 use aig::from_netlistdb;
-use prints::print_words;
+use prints::{print_words, read_full};
 use rules::{Built, NetlistCounts, Rooms, Tally};
+use std::io::{self, Read};
 
 // A word of the text, how many words it stands for, and where the text goes on.
 #[derive(Drop)]
@@ -22,7 +25,7 @@ struct Token {
 }
 
 // Where a run stands: the netlist and the call at hand, and the words compared and found wrong.
-#[derive(Drop)]
+#[derive(Clone, Copy)]
 struct Score {
     netlist: u32,
     call: u32,
@@ -32,7 +35,7 @@ struct Score {
 }
 
 // How many words of each result table are lent.
-#[derive(Drop)]
+#[derive(Clone, Copy)]
 struct Lengths {
     drivers: usize,
     outputs: usize,
@@ -298,22 +301,38 @@ fn counted(score: Score, wrong: u32) -> Score {
     }
 }
 
-fn print_first(score: Score, table: u32, place: u32, recorded: u32, found: u32) {
+fn print_first(
+    rt: &impl Print,
+    score: Score,
+    table: u32,
+    place: u32,
+    recorded: u32,
+    found: u32,
+) -> io::Result<()> {
     if score.wrong == 0 {
         print_words(
+            rt,
             b"first wrong (netlist, call, table, place, recorded, found):",
             &[score.netlist, score.call, table, place, recorded, found],
-        );
+        )?;
     }
+    Ok(())
 }
 
 // A word compared. The first that is wrong is named.
-fn word_told(score: Score, table: u32, place: u32, recorded: u32, found: u32) -> Score {
+fn word_told(
+    rt: &impl Print,
+    score: Score,
+    table: u32,
+    place: u32,
+    recorded: u32,
+    found: u32,
+) -> io::Result<Score> {
     if recorded == found {
-        return counted(score, 0);
+        return Ok(counted(score, 0));
     }
-    print_first(score, table, place, recorded, found);
-    counted(score, 1)
+    print_first(rt, score, table, place, recorded, found)?;
+    Ok(counted(score, 1))
 }
 
 // What a table must hold at a place: the recorded words, then 0 as far as it was lent, then what it was full of.
@@ -345,32 +364,33 @@ fn end_of(lent: usize) -> usize
 
 // A table, word for word, and four words behind what was lent.
 fn compare(
+    rt: &impl Print,
     score: Score,
     table: u32,
     found: &[u32; 6144],
     lent: usize,
     used: usize,
     words: &[u32; 9216],
-) -> Score {
+) -> io::Result<Score> {
     let from = 2048 + 1024 * at_most(table, 7);
     let end = end_of(lent);
     let mut told = score;
     let mut place = 0;
     while place < end {
         let recorded = expected(words, from, used, lent, place);
-        told = word_told(told, table, place as u32, recorded, found[place]);
+        told = word_told(rt, told, table, place as u32, recorded, found[place])?;
         place += 1;
     }
-    told
+    Ok(told)
 }
 
 // The tallies of a graph: table 8, from 1.
-fn tally_told(score: Score, t: Tally, words: &[u32; 9216]) -> Score {
-    let a = word_told(score, 8, 1, words[3], t.pins);
-    let b = word_told(a, 8, 2, words[4], t.gates);
-    let c = word_told(b, 8, 3, words[5], t.outputs);
-    let d = word_told(c, 8, 4, words[6], t.dffs);
-    word_told(d, 8, 5, words[7], t.rams)
+fn tally_told(rt: &impl Print, score: Score, t: Tally, words: &[u32; 9216]) -> io::Result<Score> {
+    let a = word_told(rt, score, 8, 1, words[3], t.pins)?;
+    let b = word_told(rt, a, 8, 2, words[4], t.gates)?;
+    let c = word_told(rt, b, 8, 3, words[5], t.outputs)?;
+    let d = word_told(rt, c, 8, 4, words[6], t.dffs)?;
+    word_told(rt, d, 8, 5, words[7], t.rams)
 }
 
 fn not_made(number: u32) -> u32 {
@@ -381,13 +401,19 @@ fn not_made(number: u32) -> u32 {
 }
 
 // The answer: 0 or the number of the refusal, and the tallies.
-fn answer_told(score: Score, answer: Built, number: u32, words: &[u32; 9216]) -> Score {
+fn answer_told(
+    rt: &impl Print,
+    score: Score,
+    answer: Built,
+    number: u32,
+    words: &[u32; 9216],
+) -> io::Result<Score> {
     match answer {
         Built::Made(t) => {
-            let told = word_told(score, 8, 0, number, 0);
-            tally_told(told, t, words)
+            let told = word_told(rt, score, 8, 0, number, 0)?;
+            tally_told(rt, told, t, words)
         }
-        Built::Refused(n) => word_told(score, 8, 0, number, not_made(n)),
+        Built::Refused(n) => word_told(rt, score, 8, 0, number, not_made(n)),
     }
 }
 
@@ -411,6 +437,7 @@ fn used_words(words: &[u32; 9216], number: u32) -> Lengths {
 
 // The answer and all tables.
 fn compare_all(
+    rt: &impl Print,
     score: Score,
     words: &[u32; 9216],
     number: u32,
@@ -424,21 +451,22 @@ fn compare_all(
     fanout_starts: &[u32; 6144],
     fanouts: &[u32; 6144],
     work: &[u32; 6144],
-) -> Score {
+) -> io::Result<Score> {
     let used = used_words(words, number);
-    let told = answer_told(score, answer, number, words);
-    let a = compare(told, 0, drivers, lent.drivers, used.drivers, words);
-    let b = compare(a, 1, outputs, lent.outputs, used.outputs, words);
-    let c = compare(b, 2, dffs, lent.dffs, used.dffs, words);
-    let d = compare(c, 3, rams, lent.rams, used.rams, words);
-    let e = compare(d, 4, literals, lent.literals, used.literals, words);
-    let f = compare(e, 5, fanout_starts, lent.starts, used.starts, words);
-    let g = compare(f, 6, fanouts, lent.fanouts, used.fanouts, words);
-    compare(g, 7, work, lent.work, 0, words)
+    let told = answer_told(rt, score, answer, number, words)?;
+    let a = compare(rt, told, 0, drivers, lent.drivers, used.drivers, words)?;
+    let b = compare(rt, a, 1, outputs, lent.outputs, used.outputs, words)?;
+    let c = compare(rt, b, 2, dffs, lent.dffs, used.dffs, words)?;
+    let d = compare(rt, c, 3, rams, lent.rams, used.rams, words)?;
+    let e = compare(rt, d, 4, literals, lent.literals, used.literals, words)?;
+    let f = compare(rt, e, 5, fanout_starts, lent.starts, used.starts, words)?;
+    let g = compare(rt, f, 6, fanouts, lent.fanouts, used.fanouts, words)?;
+    compare(rt, g, 7, work, lent.work, 0, words)
 }
 
 // A call in these rooms, and all that it answers and leaves.
 fn run_call(
+    rt: &impl Print,
     words: &[u32; 9216],
     kinds: &[u32],
     starts: &[u32],
@@ -449,7 +477,7 @@ fn run_call(
     spare: u32,
     number: u32,
     score: Score,
-) -> Score {
+) -> io::Result<Score> {
     let c = counts(words);
     let long = lent_words(rooms, words[1], spare);
     let mut drivers = full();
@@ -486,6 +514,7 @@ fn run_call(
         &mut work[..work_long],
     );
     compare_all(
+        rt,
         score,
         words,
         number,
@@ -528,6 +557,7 @@ fn with_room(r: Rooms, which: u32, n: u32) -> Rooms {
 
 // One room a word short: refused, 11.
 fn run_short(
+    rt: &impl Print,
     words: &[u32; 9216],
     kinds: &[u32],
     starts: &[u32],
@@ -536,19 +566,22 @@ fn run_short(
     nets: &[u32],
     which: u32,
     score: Score,
-) -> Score {
+) -> io::Result<Score> {
     let rooms = needed(words);
     let n = room(rooms, which);
     if n == 0 {
-        return score;
+        return Ok(score);
     }
     let short = with_room(rooms, which, n - 1);
     let called = call_told(score, plus(which, 2));
-    run_call(words, kinds, starts, list, pins, nets, short, 0, 11, called)
+    run_call(
+        rt, words, kinds, starts, list, pins, nets, short, 0, 11, called,
+    )
 }
 
 // Call 0 has wide rooms, call 1 just enough, and each other one of them short.
 fn run_calls(
+    rt: &impl Print,
     words: &[u32; 9216],
     kinds: &[u32],
     starts: &[u32],
@@ -556,10 +589,11 @@ fn run_calls(
     pins: &[u32],
     nets: &[u32],
     score: Score,
-) -> Score {
+) -> io::Result<Score> {
     let rooms = needed(words);
     let wide = larger(rooms);
     let first = run_call(
+        rt,
         words,
         kinds,
         starts,
@@ -570,8 +604,9 @@ fn run_calls(
         9,
         0,
         call_told(score, 0),
-    );
+    )?;
     let mut told = run_call(
+        rt,
         words,
         kinds,
         starts,
@@ -582,17 +617,17 @@ fn run_calls(
         0,
         0,
         call_told(first, 1),
-    );
+    )?;
     let mut which = 0;
     while which < 5 {
-        told = run_short(words, kinds, starts, list, pins, nets, which, told);
+        told = run_short(rt, words, kinds, starts, list, pins, nets, which, told)?;
         which += 1;
     }
-    told
+    Ok(told)
 }
 
 // The netlist at hand, in all its calls.
-fn run_words(words: &[u32; 9216], score: Score) -> Score {
+fn run_words(rt: &impl Print, words: &[u32; 9216], score: Score) -> io::Result<Score> {
     let whole = &words[..];
     let cells = at_most(words[0], 79);
     let own = at_most(words[1], 256);
@@ -601,7 +636,7 @@ fn run_words(words: &[u32; 9216], score: Score) -> Score {
     let list = &whole[192..192 + own];
     let pins = &whole[448..448 + 5 * own];
     let nets = &whole[1728..1728 + at_most(words[2], 256)];
-    run_calls(words, kinds, starts, list, pins, nets, score)
+    run_calls(rt, words, kinds, starts, list, pins, nets, score)
 }
 
 // The score so far, and where the text goes on.
@@ -622,26 +657,26 @@ fn netlist_told(score: Score) -> Score {
 }
 
 // A line: a netlist, or empty.
-fn run_line(text: &[u8; 16384], run: Run) -> Run {
+fn run_line(rt: &impl Print, text: &[u8; 16384], run: Run) -> io::Result<Run> {
     let at = run.next;
     let before = run.score;
     if byte_at(text, at) < 33 {
-        return Run {
+        return Ok(Run {
             score: before,
             next: after(text, at),
-        };
+        });
     }
     let mut words = [0u32; 9216];
     let next = read_line(text, at, &mut words);
-    let score = run_words(&words, netlist_told(before));
-    Run {
+    let score = run_words(rt, &words, netlist_told(before))?;
+    Ok(Run {
         score: score,
         next: next,
-    }
+    })
 }
 
 // A block of lines.
-fn run_block(text: &[u8; 16384], score: Score) -> Score {
+fn run_block(rt: &impl Print, text: &[u8; 16384], score: Score) -> io::Result<Score> {
     let mut run = Run {
         score: score,
         next: 0,
@@ -649,19 +684,19 @@ fn run_block(text: &[u8; 16384], score: Score) -> Score {
     let mut i = 0u32;
     while i < 16384 {
         if 16384 <= run.next {
-            return run.score;
+            return Ok(run.score);
         }
-        run = run_line(text, run);
+        run = run_line(rt, text, run)?;
         i += 1;
     }
-    run.score
+    Ok(run.score)
 }
 
-fn read_block(text: &mut [u8; 16384]) -> usize {
-    io::read_full(0, text)
+fn read_block(input: &mut impl Read, text: &mut [u8; 16384]) -> io::Result<usize> {
+    read_full(input, text)
 }
 
-fn run_all() -> Score {
+fn run_all(rt: &impl Print, input: &mut impl Read) -> io::Result<Score> {
     let mut score = Score {
         netlist: 0,
         call: 0,
@@ -672,20 +707,22 @@ fn run_all() -> Score {
     let mut text = [0u8; 16384];
     let mut i = 0u32;
     while i < 4096 {
-        let n = read_block(&mut text);
+        let n = read_block(input, &mut text)?;
         if n == 0 {
-            return score;
+            return Ok(score);
         }
-        score = run_block(&text, score);
+        score = run_block(rt, &text, score)?;
         i += 1;
     }
-    score
+    Ok(score)
 }
 
-fn main() {
-    let score = run_all();
+fn main(rt: HostRuntime) -> io::Result<()> {
+    let mut input = rt.reader();
+    let score = run_all(&rt, &mut input)?;
     print_words(
+        &rt,
         b"netlists, calls, words compared, words that are wrong:",
         &[score.netlist, score.calls, score.words, score.wrong],
-    );
+    )
 }

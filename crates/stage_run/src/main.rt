@@ -1,7 +1,10 @@
 // Runs document 01's splits and subsets through the public calls, on tables that start full of other words, and prints what they answer.
+#![tactic(auto)]
+
 use parts::from_split;
 use prints::print_words;
 use rules::{GraphCounts, Parted};
+use std::io;
 use subsets::{from_full_aig, to_endpoint_subset};
 use words::all_zero;
 
@@ -23,23 +26,31 @@ fn two_outputs(pins: u32) -> GraphCounts {
 }
 
 // The counts of a stage, or 9 and the number of a refusal; then both tables.
-fn print_parted(label: &[u8], p: Parted, handed: &[u32], taken: &[u32]) {
+fn print_parted(
+    rt: &impl Print,
+    label: &[u8],
+    p: Parted,
+    handed: &[u32],
+    taken: &[u32],
+) -> io::Result<()> {
     match p {
-        Parted::Stage(h, t) => print_words(label, &[h, t]),
-        Parted::Refused(k) => print_words(label, &[9, k]),
+        Parted::Stage(h, t) => print_words(rt, label, &[h, t])?,
+        Parted::Refused(k) => print_words(rt, label, &[9, k])?,
     }
-    print_words(b"  handed", handed);
-    print_words(b"  taken", taken);
+    print_words(rt, b"  handed", handed)?;
+    print_words(rt, b"  taken", taken)
 }
 
 // Says where work words are left.
-fn print_left(work: &[u32]) {
+fn print_left(rt: &impl Print, work: &[u32]) -> io::Result<()> {
     if !all_zero(work) {
-        print_words(b"  work words left", &[]);
+        print_words(rt, b"  work words left", &[])?;
     }
+    Ok(())
 }
 
 fn split_of(
+    rt: &impl Print,
     label: &[u8],
     c: GraphCounts,
     drivers: &[u32],
@@ -47,7 +58,7 @@ fn split_of(
     chosen: &[u32],
     before: &[u32],
     level: u32,
-) {
+) -> io::Result<()> {
     let mut handed = [7u32; 4];
     let mut taken = [7u32; 2];
     let mut work = [7u32; 400];
@@ -64,13 +75,20 @@ fn split_of(
         &mut taken,
         &mut work,
     );
-    print_parted(label, p, &handed, &taken);
-    print_left(&work);
+    print_parted(rt, label, p, &handed, &taken)?;
+    print_left(rt, &work)
 }
 
 // Of both outputs of the fork.
-fn fork(label: &[u8], chosen: &[u32], before: &[u32], level: u32) {
+fn fork(
+    rt: &impl Print,
+    label: &[u8],
+    chosen: &[u32],
+    before: &[u32],
+    level: u32,
+) -> io::Result<()> {
     split_of(
+        rt,
         label,
         two_outputs(8),
         &FORK,
@@ -78,21 +96,22 @@ fn fork(label: &[u8], chosen: &[u32], before: &[u32], level: u32) {
         chosen,
         before,
         level,
-    );
+    )
 }
 
-fn splits() {
-    fork(b"level 0", &[0, 1], &[], 0);
-    fork(b"level 1", &[0, 1], &[], 1);
-    fork(b"level 2", &[0, 1], &[], 2);
-    fork(b"level 3, the depth", &[0, 1], &[], 3);
-    fork(b"above the depth", &[0, 1], &[], 16777215);
-    fork(b"chosen in another order", &[1, 0], &[], 1);
-    fork(b"behind pin 5", &[1], &[5], 1);
-    fork(b"its own pin handed on before", &[0], &[7], 0);
-    fork(b"nothing more to hand on", &[0], &[6, 4], 0);
-    fork(b"behind pins 4, 5 and 6", &[0, 1], &[4, 5, 6], 1);
+fn splits(rt: &impl Print) -> io::Result<()> {
+    fork(rt, b"level 0", &[0, 1], &[], 0)?;
+    fork(rt, b"level 1", &[0, 1], &[], 1)?;
+    fork(rt, b"level 2", &[0, 1], &[], 2)?;
+    fork(rt, b"level 3, the depth", &[0, 1], &[], 3)?;
+    fork(rt, b"above the depth", &[0, 1], &[], 16777215)?;
+    fork(rt, b"chosen in another order", &[1, 0], &[], 1)?;
+    fork(rt, b"behind pin 5", &[1], &[5], 1)?;
+    fork(rt, b"its own pin handed on before", &[0], &[7], 0)?;
+    fork(rt, b"nothing more to hand on", &[0], &[6, 4], 0)?;
+    fork(rt, b"behind pins 4, 5 and 6", &[0, 1], &[4, 5, 6], 1)?;
     split_of(
+        rt,
         b"removal puts the last in the hole",
         two_outputs(4),
         &REMOVAL,
@@ -100,8 +119,9 @@ fn splits() {
         &[0, 1],
         &[],
         1,
-    );
+    )?;
     split_of(
+        rt,
         b"constants only",
         two_outputs(8),
         &FORK,
@@ -109,17 +129,18 @@ fn splits() {
         &[0, 1],
         &[],
         0,
-    );
+    )
 }
 
-fn refused_splits() {
-    fork(b"nothing chosen", &[], &[], 1);
-    fork(b"endpoint past the count", &[2], &[], 1);
-    fork(b"endpoint chosen twice", &[0, 0], &[], 1);
-    fork(b"pin past the count handed on before", &[0], &[9], 1);
-    fork(b"handed on before twice", &[0], &[5, 5], 1);
-    fork(b"level past its bound", &[0], &[], 16777216);
+fn refused_splits(rt: &impl Print) -> io::Result<()> {
+    fork(rt, b"nothing chosen", &[], &[], 1)?;
+    fork(rt, b"endpoint past the count", &[2], &[], 1)?;
+    fork(rt, b"endpoint chosen twice", &[0, 0], &[], 1)?;
+    fork(rt, b"pin past the count handed on before", &[0], &[9], 1)?;
+    fork(rt, b"handed on before twice", &[0], &[5, 5], 1)?;
+    fork(rt, b"level past its bound", &[0], &[], 16777216)?;
     split_of(
+        rt,
         b"wrong counts",
         two_outputs(7),
         &FORK,
@@ -127,8 +148,9 @@ fn refused_splits() {
         &[0],
         &[],
         1,
-    );
+    )?;
     split_of(
+        rt,
         b"output past the pins",
         two_outputs(8),
         &FORK,
@@ -136,53 +158,75 @@ fn refused_splits() {
         &[0],
         &[],
         1,
-    );
+    )
 }
 
-fn subset_of(label: &[u8], handed: &[u32], taken: &[u32], places: &[u32]) {
+fn subset_of(
+    rt: &impl Print,
+    label: &[u8],
+    handed: &[u32],
+    taken: &[u32],
+    places: &[u32],
+) -> io::Result<()> {
     let mut handed_out = [7u32; 3];
     let mut taken_out = [7u32; 3];
     let p = to_endpoint_subset(handed, taken, places, &mut handed_out, &mut taken_out);
-    print_parted(label, p, &handed_out, &taken_out);
+    print_parted(rt, label, p, &handed_out, &taken_out)
 }
 
-fn subsets() {
+fn subsets(rt: &impl Print) -> io::Result<()> {
     let mut two = [7u32; 2];
     let mut three = [7u32; 3];
     let mut one = [7u32; 1];
     print_parted(
+        rt,
         b"whole graph",
         from_full_aig(two_outputs(8), &mut three),
         &[],
         &three,
-    );
+    )?;
     print_parted(
+        rt,
         b"exactly the room",
         from_full_aig(two_outputs(8), &mut two),
         &[],
         &two,
-    );
+    )?;
     print_parted(
+        rt,
         b"one word short",
         from_full_aig(two_outputs(8), &mut one),
         &[],
         &one,
-    );
-    subset_of(b"all places", &[4, 3, 5], &[1, 0], &[0, 1, 2, 3, 4]);
+    )?;
+    subset_of(rt, b"all places", &[4, 3, 5], &[1, 0], &[0, 1, 2, 3, 4])?;
     subset_of(
+        rt,
         b"repeats and order kept",
         &[4, 3, 5],
         &[1, 0],
         &[2, 2, 0, 4, 4, 3],
-    );
-    subset_of(b"no places", &[4, 3, 5], &[1, 0], &[]);
-    subset_of(b"handed-on place behind an endpoint's", &[4], &[1], &[1, 0]);
-    subset_of(b"place past the stage", &[4], &[1], &[2]);
-    subset_of(b"more than the room", &[4, 3, 5], &[1, 0], &[0, 0, 1, 2]);
+    )?;
+    subset_of(rt, b"no places", &[4, 3, 5], &[1, 0], &[])?;
+    subset_of(
+        rt,
+        b"handed-on place behind an endpoint's",
+        &[4],
+        &[1],
+        &[1, 0],
+    )?;
+    subset_of(rt, b"place past the stage", &[4], &[1], &[2])?;
+    subset_of(
+        rt,
+        b"more than the room",
+        &[4, 3, 5],
+        &[1, 0],
+        &[0, 0, 1, 2],
+    )
 }
 
-fn main() {
-    splits();
-    refused_splits();
-    subsets();
+fn main(rt: HostRuntime) -> io::Result<()> {
+    splits(&rt)?;
+    refused_splits(&rt)?;
+    subsets(&rt)
 }

@@ -1,7 +1,10 @@
 // Answers many texts, as the tool does. A line `---` parts one text from the next, and one answer from the next.
-ghost use Rattle.std.specs.Prelude.{◌≡◌, ◌≤◌, length};
+#![tactic(auto)]
 
-use libc::STDOUT_FILENO;
+ghost use Rattle.std.specs.Prelude.{◌≡◌, ◌≤◌, length, IfOk};
+
+use prints::read_full;
+use std::io;
 use texts::{is_word, until};
 use tool::answer;
 
@@ -31,38 +34,41 @@ fn text_end(all: &[u8], at: usize) -> usize
 }
 
 // The first n bytes, on standard output.
-fn show(out: &[u8], n: usize) {
+fn show(rt: &impl Print, out: &[u8], n: usize) -> io::Result<()> {
     if n <= out.len() {
-        io::write_all(STDOUT_FILENO, &out[..n]);
+        rt.write_all(&out[..n])?;
     }
+    Ok(())
 }
 
-fn print_answer(text: &[u8]) {
+fn print_answer(rt: &impl Print, text: &[u8]) -> io::Result<()> {
     let mut out = room();
     let n = answer(text, &mut out);
-    show(&out, n);
+    show(rt, &out, n)
 }
 
 // Answers the text that begins at a place. Answers where it ends.
-fn print_text(all: &[u8], at: usize) -> usize
+fn print_text(rt: &impl Print, all: &[u8], at: usize) -> io::Result<usize>
     requires { at ≤ length all.now }
-    ensures { (at ≤ result) × (result ≤ length all.now) }
+    ensures { IfOk result (λ e. (at ≤ e) × (e ≤ length all.now)) }
 {
     let e = text_end(all, at);
-    print_answer(&all[at..e]);
-    e
+    print_answer(rt, &all[at..e])?;
+    Ok(e)
 }
 
-fn run(all: &[u8]) {
-    let mut e = print_text(all, 0);
+fn run(rt: &impl Print, all: &[u8]) -> io::Result<()> {
+    let mut e = print_text(rt, all, 0)?;
     while e + 4 <= all.len() {
-        io::write_all(STDOUT_FILENO, b"---\n");
-        e = print_text(all, e + 4);
+        rt.write_all(b"---\n")?;
+        e = print_text(rt, all, e + 4)?;
     }
+    Ok(())
 }
 
-fn main() {
+fn main(rt: HostRuntime) -> io::Result<()> {
     let mut all = room();
-    let n = io::read_full(0, &mut all);
-    run(&all[..n]);
+    let mut input = rt.reader();
+    let n = read_full(&mut input, &mut all)?;
+    run(&rt, &all[..n])
 }
