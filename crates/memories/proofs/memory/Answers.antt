@@ -16,7 +16,7 @@ pub returns-then-rams-k : goal.returns-then-rams-k
 returns-then-rams-k c = let a = c.args in fresh_short a.kinds.now a.starts.now a.list.now a.pins.now a.nets.now a.cell _ a.at a.work.now a.drivers.now a.t a.rams.now _ _ _ _ c.ram_number-number.ensures c.if-number-ne0.false c.if-rams-k.true refl refl refl refl
 
 pub ram_row-requires-2 : goal.ram_row-requires-2
-ram_row-requires-2 c = let a = c.args in record { going = going_more _ a.at a.work.now a.drivers.now a.t _ c.requires.going c.ram_made-more.ensures; cell_in_bounds = c.requires.cell_in_bounds; cell_value = c.requires.cell_value; k_in_bounds = c.if-rams-k.false }
+ram_row-requires-2 c = let a = c.args in record { going = going_more _ a.at a.work.now a.drivers.now a.t _ c.requires.going (search); cell_in_bounds = c.requires.cell_in_bounds; cell_value = c.requires.cell_value; k_in_bounds = c.if-rams-k.false }
 
 pub returns : goal.returns
-returns c = let a = c.args in fresh_done a.kinds.now a.starts.now a.list.now a.pins.now a.nets.now a.cell _ a.at a.work.now a.drivers.now a.t a.rams.now _ _ _ _ c.ram_number-number.ensures c.if-number-ne0.false _ c.if-rams-k.false c.ram_made-more.ensures c.ram_row-2.ensures
+returns c = let a = c.args in fresh_done a.kinds.now a.starts.now a.list.now a.pins.now a.nets.now a.cell _ a.at a.work.now a.drivers.now a.t a.rams.now _ _ _ _ c.ram_number-number.ensures c.if-number-ne0.false _ c.if-rams-k.false (search) c.ram_row-2.ensures
