@@ -1,9 +1,9 @@
 -- A split of a graph that was checked: its refusals, and what it leaves in the tables.
+use Rattle.std.specs.Prelude.{Some}
 use mathlib.Core.Path.{◌≡◌, sym, ap, subst, ◌∙◌}
 use mathlib.Core.Logic.{inl, inr}
 use mathlib.Core.Bool.{Bool, true, false, ◌&&◌}
 use mathlib.Core.List.{List, ◌++◌}
-use mathlib.Core.Option.{some}
 use Prim.Native.Nat.{ℕ, suc, ◌+◌, ◌*◌, ◌<◌, ◌≤◌}
 use native.Mathlib.Omega.{arith}
 use lib.ListN.{length}
@@ -39,7 +39,7 @@ open_zero t z = record { inside = omega arith; zero = subst (λ (x : List ℕ). 
 
 module _ (c : GraphCounts) (ws os ds rs chosen before : List ℕ) (level : ℕ) (h t w : List ℕ) (P : Parts c ws os ds rs h t w) where
   abbrev S : Stage
-  S = split (graph_in c (words_of ws os ds rs)) chosen before (some level)
+  S = split (graph_in c (words_of ws os ds rs)) chosen before (Some level)
 
   abbrev number : ℕ
   number = late_number c (words_of ws os ds rs) chosen before level (length h) (length t)

@@ -2,12 +2,11 @@
 use mathlib.Core.Path.{◌≡◌, refl, sym, ap, subst, ◌∙◌}
 use mathlib.Core.Bool.{Bool, true, false, ◌&&◌, not}
 use mathlib.Core.List.{List, [], ◌∷◌, ◌++◌}
-use mathlib.Core.Option.{Option, some}
 use Prim.Native.Nat.{ℕ, ◌+◌, ◌-◌, ◌*◌, ◌<◌, ◌≤◌}
 use native.Mathlib.Omega.{arith}
 use lib.ListN.{length, get_or}
 use borrow.Author.Tests.{leb-true, eqb-true, ltb-true, ltb-false, lt-ltb}
-use Rattle.std.specs.Prelude.{if◌then◌else◌, ◌==◌}
+use Rattle.std.specs.Prelude.{Option, Some, if◌then◌else◌, ◌==◌}
 use Rattle.laws.specs.Tests.{◌<?◌, ◌≤?◌, one}
 use Rattle.laws.specs.Lists.{count, member, keep, every, any, flat, over, upto}
 use Rattle.laws.specs.Search.{visits, level}
@@ -143,9 +142,9 @@ stops_members w m before s inside flags p = by_test (p <? m)
     ∙ sym (no_member p before (by_test (member p before) (λ t. absurd (omega (arith, h, inside p (member_true p before t)))) (λ n. member_false p before n))))
 
 pub split_is : (c : GraphCounts) (ws os ds rs left stops before : List ℕ) (d : ℕ) → ((p : ℕ) → member p stops ≡ member p before)
-    → split_in c ws os ds rs (c.pins + 1) left stops d ≡ split (graph_in c (words_of ws os ds rs)) left before (some d)
+    → split_in c ws os ds rs (c.pins + 1) left stops d ≡ split (graph_in c (words_of ws os ds rs)) left before (Some d)
 unfolding split_in
-split_is c ws os ds rs left stops before d e = ap (λ (g : Graph). split g left stops (some d)) (graph_is c ws os ds rs) ∙ split-same (graph_in c (words_of ws os ds rs)) left stops before (some d) e
+split_is c ws os ds rs left stops before d e = ap (λ (g : Graph). split g left stops (Some d)) (graph_is c ws os ds rs) ∙ split-same (graph_in c (words_of ws os ds rs)) left stops before (Some d) e
 
 -- ---- 14: nothing is listed exactly where nothing is read
 any-flat : (f : ℕ → List ℕ) (l : List ℕ) → any (λ e. 0 <? length (f e)) l ≡ (0 <? length (flat f l))

@@ -1,6 +1,5 @@
 -- What a split asked alone answers and leaves, and the parts of its number as the code tests them.
-use Rattle.std.specs.Prelude.{◌≡◌, Bool, true, false, ◌&&◌, List, ℕ, ◌+◌, ◌-◌, ◌*◌, ◌<◌, ◌≤◌, length, get_or}
-use Rattle.std.proofs.Math.Option.{some}
+use Rattle.std.specs.Prelude.{Some, ◌≡◌, Bool, true, false, ◌&&◌, List, ℕ, ◌+◌, ◌-◌, ◌*◌, ◌<◌, ◌≤◌, length, get_or}
 use Rattle.laws.specs.Tests.{◌≤?◌, or_else, refuse}
 use Rattle.laws.specs.Words.{part, zeros}
 use Rattle.rules.specs.declared.GraphCounts.{GraphCounts}
@@ -69,10 +68,10 @@ unfoldable pub late_number : GraphCounts → GraphWords → List ℕ → List �
 late_number c t chosen before level handed taken =
     or_else (refuse 15 (below (endpoints c) chosen && no_repeat chosen && pin_set c.pins before))
     (or_else (refuse 14 (something_read (graph_in c t) chosen))
-    (refuse 11 (stage_fits (split (graph_in c t) chosen before (some level)) handed taken)))
+    (refuse 11 (stage_fits (split (graph_in c t) chosen before (Some level)) handed taken)))
 
 -- what is left of it: h and t are the tables as they were lent, h' and t' as they come back
 pub record Parted1 (c : GraphCounts) (ws os ds rs chosen before : List ℕ) (level : ℕ) (h t h' t' : List ℕ) (r : Parted) : Type 0 where
-  pub answer : r ≡ parted_of (late_number c (words_of ws os ds rs) chosen before level (length h) (length t)) (split (graph_in c (words_of ws os ds rs)) chosen before (some level))
-  pub handed : h' ≡ held (late_number c (words_of ws os ds rs) chosen before level (length h) (length t)) (split (graph_in c (words_of ws os ds rs)) chosen before (some level)).handed (length h)
-  pub taken : t' ≡ held (late_number c (words_of ws os ds rs) chosen before level (length h) (length t)) (split (graph_in c (words_of ws os ds rs)) chosen before (some level)).taken (length t)
+  pub answer : r ≡ parted_of (late_number c (words_of ws os ds rs) chosen before level (length h) (length t)) (split (graph_in c (words_of ws os ds rs)) chosen before (Some level))
+  pub handed : h' ≡ held (late_number c (words_of ws os ds rs) chosen before level (length h) (length t)) (split (graph_in c (words_of ws os ds rs)) chosen before (Some level)).handed (length h)
+  pub taken : t' ≡ held (late_number c (words_of ws os ds rs) chosen before level (length h) (length t)) (split (graph_in c (words_of ws os ds rs)) chosen before (Some level)).taken (length t)

@@ -6,7 +6,7 @@ use Prim.Native.Nat.{ℕ, zero, suc, ◌+◌, ◌-◌, ◌*◌, ◌≤◌, ◌<�
 use native.Mathlib.Omega.{arith}
 use lib.ListN.{length, get_or}
 use borrow.Author.Tests.{lt-ltb, le-leb, eq-eqb, eqb-true, eqb-false}
-use Rattle.std.specs.Prelude.{◌==◌}
+use Rattle.std.specs.Prelude.{Some, ◌==◌}
 use Rattle.laws.specs.Tests.{◌<?◌, ◌≤?◌, one}
 use Rattle.laws.specs.Lists.{count, member, keep, every, flat, upto, first_or}
 use Rattle.laws.proofs.Tests.{by_test, both_true, one_eq, one_ne}
@@ -14,7 +14,6 @@ use Rattle.laws.proofs.Bags.{member_true, member_false, count-append, of_append,
 use Rattle.laws.proofs.Ranges.{length-map-upto, every_upto, upto_in}
 use Rattle.rules.specs.declared.Driver.{Driver}
 use Rattle.rules.specs.declared.Driver.TheVariants.{And, Port, Flag, Dff, Ram, Constant}
-use Rattle.rules.specs.declared.Decoded.TheVariants.{Is}
 use Rattle.rules.specs.declared.Record.{Record}
 use Rattle.rules.specs.Netlist.{Netlist, named_bit, #R_ADDR, #W_ADDR, #W_DATA}
 use Rattle.rules.specs.Graph.{pin_of, driver_at, driver_of, RamRow, Graph, pin_count, no_ram}
@@ -71,7 +70,7 @@ of_rows g f y (x ∷ l) m k = of_append y (g (f x)) (flat g (map f l)) m (λ w. 
 
 -- ---- drivers of a sound table
 module _ (ds : List Driver) (s : Sound ds) where
-  driver_fits_lem : (u : ℕ) → u < length ds → (d : Driver) → driver_at ds u ≡ d → driver_fits u (Is d) ≡ true
+  driver_fits_lem : (u : ℕ) → u < length ds → (d : Driver) → driver_at ds u ≡ d → driver_fits u (Some d) ≡ true
   driver_fits_lem u h (And a b) e =
       let w = s.gates u a.word b.word e in
       rw (le-leb 1 (pin_of a.word) w.0, lt-ltb (pin_of a.word) u w.1, le-leb 1 (pin_of b.word) w.2, lt-ltb (pin_of b.word) u w.3, le-leb a.word b.word w.4)

@@ -1,4 +1,5 @@
 -- A graph's words say the graph: each driver, record and RAM row is read back from where it lies.
+use Rattle.std.specs.Prelude.{Some}
 use mathlib.Core.Path.{◌≡◌, refl, sym, ◌∙◌, ap, subst}
 use mathlib.Core.List.{List, [], ◌∷◌, ◌++◌, map}
 use Prim.Native.Nat.{ℕ, zero, suc, ◌+◌, ◌-◌, ◌*◌, ◌≤◌, ◌<◌}
@@ -11,7 +12,6 @@ use Rattle.laws.proofs.Ranges.{length-map-upto, map-upto}
 use Rattle.rules.specs.declared.Edge.TheVariants.{Rising, Falling}
 use Rattle.rules.specs.declared.Driver.{Driver}
 use Rattle.rules.specs.declared.Driver.TheVariants.{And, Port, Flag, Dff, Ram, Constant}
-use Rattle.rules.specs.declared.Decoded.TheVariants.{Is}
 use Rattle.rules.specs.declared.Record.{Record}
 use Rattle.rules.specs.Graph.{driver_at, RamRow, Graph, no_record, no_ram}
 use Rattle.rules.specs.Tables.{driver_words, decode, decode_at, record_words, ram_words, words_from, record_in, ram_in, driver_or, drivers_in, graph_in}
@@ -52,7 +52,7 @@ three (Flag q e) = refl
 three (Dff c) = refl
 three (Ram c) = refl
 
-says : (d : Driver) → decode (get_or (driver_words d) 0 0) (get_or (driver_words d) 1 0) (get_or (driver_words d) 2 0) ≡ Is d
+says : (d : Driver) → decode (get_or (driver_words d) 0 0) (get_or (driver_words d) 1 0) (get_or (driver_words d) 2 0) ≡ Some d
 says Constant = refl
 says (And a b) = refl
 says (Port q) = refl
@@ -66,7 +66,7 @@ module _ (ds : List Driver) where
   driver_words_lem = flat-length driver_words 3 Constant ds (λ k h. three (driver_at ds k))
 
   -- the words of a driver say it
-  pub words_say : (u : ℕ) → u < length ds → decode_at (flat driver_words ds) u ≡ Is (driver_at ds u)
+  pub words_say : (u : ℕ) → u < length ds → decode_at (flat driver_words ds) u ≡ Some (driver_at ds u)
   unfolding decode_at
   words_say u h =
       let s : (k : ℕ) → k < length ds → length (driver_words (driver_at ds k)) ≡ 3 = λ k l. three (driver_at ds k) in

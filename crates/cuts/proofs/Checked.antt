@@ -1,4 +1,5 @@
 -- Refusal 12 gives what the stages need: of the driver table alone, and of a whole graph.
+use Rattle.rules.specs.declared.Driver.{Driver}
 use mathlib.Core.Path.{◌≡◌, refl, sym, ◌∙◌}
 use mathlib.Core.Bool.{Bool, true, false, ◌&&◌}
 use mathlib.Core.List.{List, [], ◌∷◌, ◌++◌}
@@ -6,7 +7,7 @@ use Prim.Native.Nat.{ℕ, zero, suc, ◌+◌, ◌-◌, ◌*◌, ◌≤◌, ◌<�
 use native.Mathlib.Omega.{arith}
 use lib.ListN.{length, get_or, get_or-eq_default}
 use borrow.Author.Tests.{ltb-true, ltb-false, leb-true, eqb-true}
-use Rattle.std.specs.Prelude.{if◌then◌else◌, ◌==◌}
+use Rattle.std.specs.Prelude.{None, Option, Some, if◌then◌else◌, ◌==◌}
 use Rattle.laws.specs.Tests.{◌<?◌, ◌≤?◌}
 use Rattle.laws.specs.Lists.{count, every, flat}
 use Rattle.laws.proofs.Tests.{by_test, true≢false, and_l, and_r, if_elim, not_refused, last_refused}
@@ -14,8 +15,6 @@ use Rattle.laws.proofs.Bags.{count-append, in_left, in_right, at_head, every_tru
 use Rattle.laws.proofs.Indices.{at_in}
 use Rattle.laws.proofs.Ranges.{of_upto, map-upto, map_past, length-map-upto}
 use Rattle.rules.specs.declared.Driver.TheVariants.{And, Port, Flag, Dff, Ram, Constant}
-use Rattle.rules.specs.declared.Decoded.{Decoded}
-use Rattle.rules.specs.declared.Decoded.TheVariants.{Is, Bad}
 use Rattle.rules.specs.declared.Endpoint.{Endpoint}
 use Rattle.rules.specs.declared.Endpoint.TheVariants.{Output, Flop, Memory}
 use Rattle.rules.specs.declared.GraphCounts.{GraphCounts}
@@ -44,30 +43,30 @@ module _ (ws : List ℕ) (pins : ℕ) (fit : drivers_fit ws pins ≡ true) where
   fits_at : (u : ℕ) → u < pins + 1 → driver_fits u (decode_at ws u) ≡ true
   fits_at u h = of_upto (λ v. driver_fits v (decode_at ws v)) (pins + 1) u fit h
 
-  at_zero : (x : Decoded) → driver_fits 0 x ≡ true → driver_or x ≡ Constant
-  at_zero (Is (And a b)) e = absurd (omega (arith, (gate-operands 0 a.word b.word e).1))
-  at_zero (Is (Port q)) e = true≢false false e refl
-  at_zero (Is (Flag q f)) e = true≢false false e refl
-  at_zero (Is (Dff c)) e = true≢false false e refl
-  at_zero (Is (Ram c)) e = true≢false false e refl
-  at_zero (Is Constant) e = refl
-  at_zero Bad e = true≢false false e refl
+  at_zero : (x : Option Driver) → driver_fits 0 x ≡ true → driver_or x ≡ Constant
+  at_zero (Some (And a b)) e = absurd (omega (arith, (gate-operands 0 a.word b.word e).1))
+  at_zero (Some (Port q)) e = true≢false false e refl
+  at_zero (Some (Flag q f)) e = true≢false false e refl
+  at_zero (Some (Dff c)) e = true≢false false e refl
+  at_zero (Some (Ram c)) e = true≢false false e refl
+  at_zero (Some Constant) e = refl
+  at_zero None e = true≢false false e refl
 
   pub zero_is_constant : driver_at (drivers_in ws pins) 0 ≡ Constant
   zero_is_constant = map-upto (λ u. driver_or (decode_at ws u)) Constant (pins + 1) 0 (omega arith) ∙ at_zero (decode_at ws 0) (fits_at 0 (omega arith))
 
-  gate_at : (u a b : ℕ) (x : Decoded) → driver_fits u x ≡ true → driver_or x ≡ gate a b
+  gate_at : (u a b : ℕ) (x : Option Driver) → driver_fits u x ≡ true → driver_or x ≡ gate a b
       → (0 < pin_of a) × (pin_of a < u) × (0 < pin_of b) × (pin_of b < u)
-  gate_at u a b (Is (And a' b')) f e =
+  gate_at u a b (Some (And a' b')) f e =
       let ea : a'.word ≡ a = cc in
       let eb : b'.word ≡ b = cc in
       rw (← ea, ← eb) (gate-operands u a'.word b'.word f)
-  gate_at u a b (Is (Port q)) f e = let z : ◌≡◌ {A = ℕ} 0 1 = cc in absurd (omega arith)
-  gate_at u a b (Is (Flag q d)) f e = let z : ◌≡◌ {A = ℕ} 0 1 = cc in absurd (omega arith)
-  gate_at u a b (Is (Dff c)) f e = let z : ◌≡◌ {A = ℕ} 0 1 = cc in absurd (omega arith)
-  gate_at u a b (Is (Ram c)) f e = let z : ◌≡◌ {A = ℕ} 0 1 = cc in absurd (omega arith)
-  gate_at u a b (Is Constant) f e = let z : ◌≡◌ {A = ℕ} 0 1 = cc in absurd (omega arith)
-  gate_at u a b Bad f e = let z : ◌≡◌ {A = ℕ} 0 1 = cc in absurd (omega arith)
+  gate_at u a b (Some (Port q)) f e = let z : ◌≡◌ {A = ℕ} 0 1 = cc in absurd (omega arith)
+  gate_at u a b (Some (Flag q d)) f e = let z : ◌≡◌ {A = ℕ} 0 1 = cc in absurd (omega arith)
+  gate_at u a b (Some (Dff c)) f e = let z : ◌≡◌ {A = ℕ} 0 1 = cc in absurd (omega arith)
+  gate_at u a b (Some (Ram c)) f e = let z : ◌≡◌ {A = ℕ} 0 1 = cc in absurd (omega arith)
+  gate_at u a b (Some Constant) f e = let z : ◌≡◌ {A = ℕ} 0 1 = cc in absurd (omega arith)
+  gate_at u a b None f e = let z : ◌≡◌ {A = ℕ} 0 1 = cc in absurd (omega arith)
 
   pub gates_fit : (u a b : ℕ) → driver_at (drivers_in ws pins) u ≡ gate a b → (0 < pin_of a) × (pin_of a < u) × (0 < pin_of b) × (pin_of b < u)
   gates_fit u a b e = by_test (u <? pins + 1)

@@ -1,7 +1,7 @@
 -- Levels within a stage are levels of the whole graph counted from the stage's lower end; so an endpoint's depth says which stage takes it.
+use Rattle.std.specs.Prelude.{None, Some}
 use mathlib.Core.Path.{◌≡◌, refl, sym, ◌∙◌, ap}
 use mathlib.Core.List.{List, [], ◌∷◌}
-use mathlib.Core.Option.{none, some}
 use Prim.Native.Nat.{ℕ, zero, suc, ◌+◌, ◌-◌, ◌≤◌, ◌<◌, max}
 use native.Mathlib.Omega.{arith}
 use borrow.Author.Tests.{leb-true, leb-false, le-leb}
@@ -55,32 +55,32 @@ module _ (g : Graph) (ck : Checked g) where
 
   module _ (left before : List ℕ) (a b : ℕ) (le : a ≤ b) (at : Leveled g a left before) where
     abbrev left' : List ℕ
-    left' = left_next g left before (some (b - a))
+    left' = left_next g left before (Some (b - a))
 
     abbrev before' : List ℕ
-    before' = before_next g left before (some (b - a))
+    before' = before_next g left before (Some (b - a))
 
     abbrev hs : List ℕ
-    hs = (split g left before (some (b - a))).handed
+    hs = (split g left before (Some (b - a))).handed
 
     next-passed : (u : ℕ) → 0 < count u (order g left' before') → 0 < count u before' → whole_level g u ≤ b
     next-passed u m k = by_test (member u before)
-        (λ t. omega (arith, at.passed u (next-visits g left before (some (b - a)) ck u m).0 (member_true u before t)))
+        (λ t. omega (arith, at.passed u (next-visits g left before (Some (b - a)) ck u m).0 (member_true u before t)))
         (λ f. let new : 0 < count u hs = omega (arith, k, member_false u before f, count-append u before hs) in
         omega (
           arith,
-          leb-true (level (back g before) u) (b - a) (handed_low g left before (some (b - a)) u new),
-          at.ahead u (handed_visited g left before (some (b - a)) u new) (member_false u before f),
+          leb-true (level (back g before) u) (b - a) (handed_low g left before (Some (b - a)) u new),
+          at.ahead u (handed_visited g left before (Some (b - a)) u new) (member_false u before f),
         ))
 
     -- a pin that is not handed on was too high for the stage
     pub next_high : (u : ℕ) → 0 < count u (order g left' before') → count u before' ≡ 0 → b < whole_level g u
-    next_high u m n = by_test (low g before (some (b - a)) u)
-        (λ t. absurd (omega (arith, n, (next-visits g left before (some (b - a)) ck u m).1 t)))
+    next_high u m n = by_test (low g before (Some (b - a)) u)
+        (λ t. absurd (omega (arith, n, (next-visits g left before (Some (b - a)) ck u m).1 t)))
         (λ f. omega (
           arith,
           leb-false (level (back g before) u) (b - a) f,
-          at.ahead u (next-visits g left before (some (b - a)) ck u m).0
+          at.ahead u (next-visits g left before (Some (b - a)) ck u m).0
               (omega (arith, n, count-append u before hs)),
         ))
 
@@ -112,16 +112,16 @@ module _ (g : Graph) (ck : Checked g) where
     }
 
     -- the stage takes an endpoint exactly where its upper end reaches the endpoint's depth
-    pub taken_by_depth : (e : ℕ) → 0 < count e left → every (low g before (some (b - a))) (inputs g e) ≡ (depth g e ≤? b)
-    taken_by_depth e m = bits_same (every (low g before (some (b - a))) (inputs g e)) (depth g e ≤? b)
+    pub taken_by_depth : (e : ℕ) → 0 < count e left → every (low g before (Some (b - a))) (inputs g e) ≡ (depth g e ≤? b)
+    taken_by_depth e m = bits_same (every (low g before (Some (b - a))) (inputs g e)) (depth g e ≤? b)
         (λ t. le-leb (depth g e) b (largest_le (whole_level g) (inputs g e) b (λ i mi. by_test (member i before)
         (λ y. omega (arith, at.passed i (in_order g ck left before e i m mi) (member_true i before y)))
         (λ n. omega (
           arith,
           at.ahead i (in_order g ck left before e i m mi) (member_false i before n),
-          leb-true (level (back g before) i) (b - a) (every_true (low g before (some (b - a))) i (inputs g e) t mi),
+          leb-true (level (back g before) i) (b - a) (every_true (low g before (Some (b - a))) i (inputs g e) t mi),
         )))))
-        (λ t. every_all (low g before (some (b - a))) (inputs g e) (λ i mi. le-leb (level (back g before) i) (b - a)
+        (λ t. every_all (low g before (Some (b - a))) (inputs g e) (λ i mi. le-leb (level (back g before) i) (b - a)
         (let deep : whole_level g i ≤ b = omega (arith, leb-true (depth g e) b t, largest_at (whole_level g) (inputs g e) i mi) in
         by_test (member i before)
         (λ y. omega (arith, level_stop g ck before i (member_true i before y)))
@@ -134,21 +134,21 @@ module _ (g : Graph) (ck : Checked g) where
       (λ a b l f le n i. leveled_next l f a b le i)
 
   placed_last : (bs : List ℕ) (a : ℕ) (left before : List ℕ) → Ends g a left before bs
-      → Placed g bs a left before (row a none (split g left before none) ∷ [])
+      → Placed g bs a left before (row a None (split g left before None) ∷ [])
   placed_last [] a left before w at e m = (ap (count e) (last_taken g ck left before), refl)
   placed_last (b ∷ bs) a left before w at e m =
       (ap (count e) (last_taken g ck left before), rw (sym (taken_by_depth left before a b w.0 at e m) ∙ w.1 e m))
 
   placed-more : (b : ℕ) (bs : List ℕ) (a : ℕ) (left before : List ℕ) (rest : List Row) → a ≤ b
-      → Placed g bs b (left_next g left before (some (b - a))) (before_next g left before (some (b - a))) rest
-      → Placed g (b ∷ bs) a left before (row a (some b) (split g left before (some (b - a))) ∷ rest)
+      → Placed g bs b (left_next g left before (Some (b - a))) (before_next g left before (Some (b - a))) rest
+      → Placed g (b ∷ bs) a left before (row a (Some b) (split g left before (Some (b - a))) ∷ rest)
   placed-more b bs a left before rest le ih at e m = by_test (depth g e ≤? b)
-      (λ t. rw t (low_taken g left before (some (b - a)) e (taken_by_depth left before a b le at e m ∙ t), refl))
-      (λ f. let same : count e (left_next g left before (some (b - a))) ≡ count e left =
+      (λ t. rw t (low_taken g left before (Some (b - a)) e (taken_by_depth left before a b le at e m ∙ t), refl))
+      (λ f. let same : count e (left_next g left before (Some (b - a))) ≡ count e left =
       omega (
         arith,
-        high_left g left before (some (b - a)) e (taken_by_depth left before a b le at e m ∙ f),
-        count_removes left (split g left before (some (b - a))).taken e,
+        high_left g left before (Some (b - a)) e (taken_by_depth left before a b le at e m ∙ f),
+        count_removes left (split g left before (Some (b - a))).taken e,
       ) in
       let w = ih (leveled_next left before a b le at) e (omega (arith, m, same)) in
       rw f (w.0 ∙ same, ap suc w.1))

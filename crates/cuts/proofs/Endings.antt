@@ -1,10 +1,10 @@
 -- Where the stages end: nothing handed on means that every endpoint is taken, and as long as something is handed on, the next split has
 -- an input to visit.
+use Rattle.std.specs.Prelude.{Option, None, Some}
 use mathlib.Core.Path.{◌≡◌, refl, ap}
 use mathlib.Core.Logic.{◌⊎◌, inl, inr}
 use mathlib.Core.Bool.{true, false}
 use mathlib.Core.List.{List, [], ◌∷◌}
-use mathlib.Core.Option.{Option, none, some}
 use Prim.Native.Nat.{ℕ, suc, ◌<◌}
 use native.Mathlib.Omega.{arith}
 use lib.ListN.{length}
@@ -29,10 +29,10 @@ use Rattle.cuts.proofs.Next.{left_next}
 
 module _ (g : Graph) (ck : Checked g) where
   -- where nothing is handed on every endpoint left is taken; a difference of 0 would break it, unless nothing was handed on before
-  pub all_taken_lem : (left before : List ℕ) (d : ℕ) → (0 < d) ⊎ (before ≡ []) → (split g left before (some d)).handed ≡ []
-      → (e : ℕ) → 0 < count e left → every (low g before (some d)) (inputs g e) ≡ true
-  all_taken_lem left before d h z e m = by_test (every (low g before (some d)) (inputs g e)) (λ t. t) (λ f.
-      every_false (low g before (some d)) (inputs g e) f (λ i mi fi.
+  pub all_taken_lem : (left before : List ℕ) (d : ℕ) → (0 < d) ⊎ (before ≡ []) → (split g left before (Some d)).handed ≡ []
+      → (e : ℕ) → 0 < count e left → every (low g before (Some d)) (inputs g e) ≡ true
+  all_taken_lem left before d h z e m = by_test (every (low g before (Some d)) (inputs g e)) (λ t. t) (λ f.
+      every_false (low g before (Some d)) (inputs g e) f (λ i mi fi.
       level_cross (back g before) (back_below g ck before) (λ u. 0 < count u (order g left before)) (order_closed g ck left before) d (suc i) i (omega arith)
       (in_order g ck left before e i m mi) (leb-false (level (back g before) i) d fi)
       (λ v o mv lv mo lo. absurd (crossed v o mv lv mo lo (free h o lo)))))
@@ -51,7 +51,7 @@ module _ (g : Graph) (ck : Checked g) where
       crossed v o mv lv mo lo nb = omega (
         arith,
         ap (count o) z,
-        hands g left before (some d) o (record {
+        hands g left before (Some d) o (record {
           visited = order_closed g ck left before v o mv mo;
           is_low = le-leb (level (back g before) o) d (omega arith);
           is_new = nb;
@@ -64,8 +64,8 @@ module _ (g : Graph) (ck : Checked g) where
     high_up u o l f = go d f
       where
         go : (d' : Option ℕ) → within d' (level (back g before) o) ≡ false → within d' (level (back g before) u) ≡ false
-        go none e = e
-        go (some n) e = lt-leb (level (back g before) u) n (omega (arith, leb-false (level (back g before) o) n e))
+        go None e = e
+        go (Some n) e = lt-leb (level (back g before) u) n (omega (arith, leb-false (level (back g before) o) n e))
 
     -- a gate visited whose level is too high is there for an endpoint that is not taken
     high_visited : (u : ℕ) → 0 < count u (order g left before) → low g before d u ≡ false → EndpointLeft g left before d
@@ -107,11 +107,11 @@ module _ (g : Graph) (ck : Checked g) where
         not_nil (y ∷ l) x k = omega arith
 
   -- without an upper end every endpoint left is taken and nothing is handed on
-  pub last_takes : (left before : List ℕ) (e : ℕ) → every (low g before none) (inputs g e) ≡ true
-  last_takes left before e = every_all (low g before none) (inputs g e) (λ y m. refl)
+  pub last_takes : (left before : List ℕ) (e : ℕ) → every (low g before None) (inputs g e) ≡ true
+  last_takes left before e = every_all (low g before None) (inputs g e) (λ y m. refl)
 
-  pub last_hands_none : (left before : List ℕ) → (split g left before none).handed ≡ []
-  last_hands_none left before = none_in (split g left before none).handed (λ p. by_test (member p (split g left before none).handed)
-      (λ t. let w : EndpointLeft g left before none = goes_on left before none p (member_true p (split g left before none).handed t) in
-      true≢false (every (low g before none) (inputs g w.endpoint)) (last_takes left before w.endpoint) w.not_taken)
-      (λ f. member_false p (split g left before none).handed f))
+  pub last_hands_none : (left before : List ℕ) → (split g left before None).handed ≡ []
+  last_hands_none left before = none_in (split g left before None).handed (λ p. by_test (member p (split g left before None).handed)
+      (λ t. let w : EndpointLeft g left before None = goes_on left before None p (member_true p (split g left before None).handed t) in
+      true≢false (every (low g before None) (inputs g w.endpoint)) (last_takes left before w.endpoint) w.not_taken)
+      (λ f. member_false p (split g left before None).handed f))

@@ -1,9 +1,9 @@
 -- A split hands on exactly the low pins, not handed on before, that have a reader left; each once.
+use Rattle.std.specs.Prelude.{Option}
 use mathlib.Core.Path.{◌≡◌}
 use mathlib.Core.Logic.{◌↔◌}
 use mathlib.Core.Bool.{Bool, true, not}
 use mathlib.Core.List.{List, ◌++◌}
-use mathlib.Core.Option.{Option}
 use Prim.Native.Nat.{ℕ, ◌≤◌, ◌<◌}
 use native.Mathlib.Omega.{arith}
 use borrow.Author.Tests.{ltb-true, ltb-false, not-true}

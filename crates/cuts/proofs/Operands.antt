@@ -1,8 +1,8 @@
 -- Where a visit goes from a pin: to the operands of a gate, which are smaller pins and never pin 0, and not past a pin handed on before.
+use Rattle.std.specs.Prelude.{Option, None, Some}
 use mathlib.Core.Path.{◌≡◌, refl, ◌∙◌, ap, subst}
 use mathlib.Core.Bool.{true}
 use mathlib.Core.List.{List, [], ◌∷◌}
-use mathlib.Core.Option.{Option, none, some}
 use Prim.Native.Nat.{ℕ, ◌<◌}
 use native.Mathlib.Omega.{arith}
 use borrow.Author.Tests.{le-leb}
@@ -19,8 +19,8 @@ use Rattle.cuts.specs.Checked.{Checked}
 
 -- level 0 is within any difference
 pub within_zero : (d : Option ℕ) → within d 0 ≡ true
-within_zero none = refl
-within_zero (some d) = le-leb 0 d (omega arith)
+within_zero None = refl
+within_zero (Some d) = le-leb 0 d (omega arith)
 
 module _ (g : Graph) (before : List ℕ) where
   -- no visit passes a pin handed on before

@@ -1,7 +1,7 @@
 -- How many there can be: endpoints taken, pins handed on, stages. Each endpoint is taken once, and no pin is handed on twice.
+use Rattle.std.specs.Prelude.{Option, None, Some}
 use mathlib.Core.Path.{◌≡◌, ap}
 use mathlib.Core.List.{List, []}
-use mathlib.Core.Option.{Option, none, some}
 use Prim.Native.Nat.{ℕ, ◌+◌, ◌-◌, ◌≤◌, ◌<◌}
 use native.Mathlib.Omega.{arith}
 use lib.ListN.{length}
@@ -30,13 +30,13 @@ module _ (g : Graph) (ck : Checked g) where
   pub stages-once : (bs : List ℕ) (a : ℕ) (left before : List ℕ) → Climbs before a bs → (e : ℕ)
       → count e (all_taken (stages_from g a left before bs)) ≡ count e left
   stages-once = stages_by g ck (λ bs a left before rows. (e : ℕ) → count e (all_taken rows) ≡ count e left)
-      (λ bs a left before w e. omega (arith, count-append e (split g left before none).taken [], ap (count e) (last_taken g ck left before)))
+      (λ bs a left before w e. omega (arith, count-append e (split g left before None).taken [], ap (count e) (last_taken g ck left before)))
       (λ b bs a left before rest le n ih e. omega (
         arith,
         ih e,
-        count-append e (split g left before (some (b - a))).taken (all_taken rest),
-        count_removes left (split g left before (some (b - a))).taken e,
-        taken_le g left before (some (b - a)) e,
+        count-append e (split g left before (Some (b - a))).taken (all_taken rest),
+        count_removes left (split g left before (Some (b - a))).taken e,
+        taken_le g left before (Some (b - a)) e,
       ))
 
   pub stages_taken : (bs : List ℕ) (a : ℕ) (left before : List ℕ) → Climbs before a bs
@@ -49,23 +49,23 @@ module _ (g : Graph) (ck : Checked g) where
   stages_handed_once = stages_by g ck (λ bs a left before rows. ((p : ℕ) → count p before ≤ 1) → (p : ℕ) → count p before + count p (all_handed rows) ≤ 1)
       (λ bs a left before w h p. omega (
         arith,
-        handed_apart g left before none ck h p,
-        count-append p before (split g left before none).handed,
-        count-append p (split g left before none).handed [],
+        handed_apart g left before None ck h p,
+        count-append p before (split g left before None).handed,
+        count-append p (split g left before None).handed [],
       ))
       (λ b bs a left before rest le n ih h p. omega (
         arith,
-        ih (handed_apart g left before (some (b - a)) ck h) p,
-        count-append p before (split g left before (some (b - a))).handed,
-        count-append p (split g left before (some (b - a))).handed (all_handed rest),
+        ih (handed_apart g left before (Some (b - a)) ck h) p,
+        count-append p before (split g left before (Some (b - a))).handed,
+        count-append p (split g left before (Some (b - a))).handed (all_handed rest),
       ))
 
   pub stages_handed_fit : (bs : List ℕ) (a : ℕ) (left before : List ℕ) → Climbs before a bs
       → (p : ℕ) → 0 < count p (all_handed (stages_from g a left before bs)) → (0 < p) × (p ≤ pin_count g)
   stages_handed_fit = stages_by g ck (λ bs a left before rows. (p : ℕ) → 0 < count p (all_handed rows) → (0 < p) × (p ≤ pin_count g))
-      (λ bs a left before w p m. of_append p (split g left before none).handed [] m (handed_fits left before none p) (λ z. absurd (omega arith)))
-      (λ b bs a left before rest le n ih p m. of_append p (split g left before (some (b - a))).handed (all_handed rest) m
-      (handed_fits left before (some (b - a)) p) (ih p))
+      (λ bs a left before w p m. of_append p (split g left before None).handed [] m (handed_fits left before None p) (λ z. absurd (omega arith)))
+      (λ b bs a left before rest le n ih p m. of_append p (split g left before (Some (b - a))).handed (all_handed rest) m
+      (handed_fits left before (Some (b - a)) p) (ih p))
 
   pub stages_handed : (bs : List ℕ) (a : ℕ) (left : List ℕ) → Climbs [] a bs → length (all_handed (stages_from g a left [] bs)) ≤ pin_count g
   stages_handed bs a left c = fits_from_one (pin_count g) (all_handed (stages_from g a left [] bs))

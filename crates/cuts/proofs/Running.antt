@@ -3,11 +3,10 @@
 use mathlib.Core.Path.{◌≡◌, sym, ap, subst}
 use mathlib.Core.Bool.{Bool, true}
 use mathlib.Core.List.{List, [], ◌∷◌, ◌++◌, append_assoc}
-use mathlib.Core.Option.{Option, none, some}
 use Prim.Native.Nat.{ℕ, ◌+◌, ◌-◌, ◌<◌}
 use native.Mathlib.Omega.{arith}
 use borrow.Author.Tests.{eqb-true, eqb-false, leb-true, le-leb}
-use Rattle.std.specs.Prelude.{◌==◌}
+use Rattle.std.specs.Prelude.{Option, None, Some, ◌==◌}
 use Rattle.laws.specs.Lists.{count, every, flat, over}
 use Rattle.laws.specs.Sets.{insert, remove}
 use Rattle.laws.specs.Search.{level}
@@ -70,8 +69,8 @@ module _ (g : Graph) (ck : Checked g) (before : List ℕ) (d : Option ℕ) where
   low_down u o m = go d
     where
       go : (d' : Option ℕ) → within d' (level (back g before) u) ≡ true → within d' (level (back g before) o) ≡ true
-      go none t = t
-      go (some n) t = le-leb (level (back g before) o) n
+      go None t = t
+      go (Some n) t = le-leb (level (back g before) o) n
           (omega (arith, level_lt (back g before) (back_below g ck before) u o m, leb-true (level (back g before) u) n t))
 
 -- ---- each read finds a reader to count down, and the pin in the set

@@ -1,9 +1,9 @@
 -- The stages by induction: each is the split of its own difference, and the stages end with a split that takes all that is left.
+use Rattle.std.specs.Prelude.{Option, None, Some}
 use mathlib.Core.Path.{◌≡◌, refl, sym, ◌∙◌, ap₂}
 use mathlib.Core.Logic.{◌⊎◌, inl, inr}
 use mathlib.Core.Bool.{true, false}
 use mathlib.Core.List.{List, [], ◌∷◌}
-use mathlib.Core.Option.{Option, none, some}
 use Prim.Native.Nat.{ℕ, ◌-◌, ◌≤◌, ◌<◌}
 use native.Mathlib.Omega.{arith}
 use borrow.Author.Tests.{ltb-true}
@@ -37,7 +37,7 @@ climbs_first (b ∷ bs) r = (omega arith, inr refl, r)
 
 -- ---- a split either ends the stages or goes on
 pub onward_by : (P : List Row → Type 0) (a b : ℕ) (s : Stage) (rest : List Row)
-    → (s.handed ≡ [] → P (row a none s ∷ [])) → (is_nil s.handed ≡ false → P (row a (some b) s ∷ rest)) → P (onward a b s rest)
+    → (s.handed ≡ [] → P (row a None s ∷ [])) → (is_nil s.handed ≡ false → P (row a (Some b) s ∷ rest)) → P (onward a b s rest)
 onward_by P a b s rest p q = by_test (is_nil s.handed) (λ t. rw t (p (nil_is s.handed t))) (λ f. rw f (q f))
 
 same-stage : (s t : Stage) → s.handed ≡ t.handed → s.taken ≡ t.taken → s ≡ t
@@ -46,7 +46,7 @@ same-stage s t h k = ap₂ (λ x y. record { handed = x; taken = y }) h k
 -- why the stages end here: no level is left, or all endpoints left fall below the next one
 abbrev pub Ends : Graph → ℕ → List ℕ → List ℕ → List ℕ → Type 0
 Ends g a left before [] = Unit {0}
-Ends g a left before (b ∷ bs) = (a ≤ b) × ((e : ℕ) → 0 < count e left → every (low g before (some (b - a))) (inputs g e) ≡ true)
+Ends g a left before (b ∷ bs) = (a ≤ b) × ((e : ℕ) → 0 < count e left → every (low g before (Some (b - a))) (inputs g e) ≡ true)
 
 -- a stage is the split of its own difference
 abbrev pub IsSplit : Graph → List ℕ → List ℕ → Row → Type 0
@@ -57,26 +57,26 @@ module _ (g : Graph) (ck : Checked g) where
       → (split g left before d).taken ≡ left
   takes_all left before d h = taken_is g left before d ∙ keep_all (λ e. every (low g before d) (inputs g e)) left h
 
-  pub last_taken : (left before : List ℕ) → (split g left before none).taken ≡ left
-  last_taken left before = takes_all left before none (λ e m. last_takes g ck left before e)
+  pub last_taken : (left before : List ℕ) → (split g left before None).taken ≡ left
+  last_taken left before = takes_all left before None (λ e m. last_takes g ck left before e)
 
   -- where nothing is handed on, the split is the one without an upper end
-  pub split_ends : (left before : List ℕ) (d : ℕ) → (0 < d) ⊎ (before ≡ []) → (split g left before (some d)).handed ≡ []
-      → split g left before (some d) ≡ split g left before none
-  split_ends left before d h z = same-stage (split g left before (some d)) (split g left before none)
+  pub split_ends : (left before : List ℕ) (d : ℕ) → (0 < d) ⊎ (before ≡ []) → (split g left before (Some d)).handed ≡ []
+      → split g left before (Some d) ≡ split g left before None
+  split_ends left before d h z = same-stage (split g left before (Some d)) (split g left before None)
       (z ∙ sym (last_hands_none g ck left before))
-      (takes_all left before (some d) (all_taken_lem g ck left before d h z) ∙ sym (last_taken left before))
+      (takes_all left before (Some d) (all_taken_lem g ck left before d h z) ∙ sym (last_taken left before))
 
   pub stages_by : (Q : List ℕ → ℕ → List ℕ → List ℕ → List Row → Type 0)
-      → ((bs : List ℕ) (a : ℕ) (left before : List ℕ) → Ends g a left before bs → Q bs a left before (row a none (split g left before none) ∷ []))
-      → ((b : ℕ) (bs : List ℕ) (a : ℕ) (left before : List ℕ) (rest : List Row) → a ≤ b → is_nil (split g left before (some (b - a))).handed ≡ false
-      → Q bs b (left_next g left before (some (b - a))) (before_next g left before (some (b - a))) rest
-      → Q (b ∷ bs) a left before (row a (some b) (split g left before (some (b - a))) ∷ rest))
+      → ((bs : List ℕ) (a : ℕ) (left before : List ℕ) → Ends g a left before bs → Q bs a left before (row a None (split g left before None) ∷ []))
+      → ((b : ℕ) (bs : List ℕ) (a : ℕ) (left before : List ℕ) (rest : List Row) → a ≤ b → is_nil (split g left before (Some (b - a))).handed ≡ false
+      → Q bs b (left_next g left before (Some (b - a))) (before_next g left before (Some (b - a))) rest
+      → Q (b ∷ bs) a left before (row a (Some b) (split g left before (Some (b - a))) ∷ rest))
       → (bs : List ℕ) (a : ℕ) (left before : List ℕ) → Climbs before a bs → Q bs a left before (stages_from g a left before bs)
   unfolding stages_from
   stages_by Q last more [] a left before c = last [] a left before tt
   stages_by Q last more (b ∷ bs) a left before c =
-      let d : Option ℕ = some (b - a) in
+      let d : Option ℕ = Some (b - a) in
       let s : Stage = split g left before d in
       let rest : List Row = stages_from g b (left_next g left before d) (before_next g left before d) bs in
       onward_by (Q (b ∷ bs) a left before) a b s rest
@@ -86,10 +86,10 @@ module _ (g : Graph) (ck : Checked g) where
 
   -- ---- what holds of each stage in turn, by what holds where a stage begins
   pub stages_turn : (P : List ℕ → List ℕ → Row → Type 0) (I : ℕ → List ℕ → List ℕ → Type 0)
-      → ((a : ℕ) (left before : List ℕ) → I a left before → P left before (row a none (split g left before none)))
-      → ((a b : ℕ) (left before : List ℕ) → a ≤ b → I a left before → P left before (row a (some b) (split g left before (some (b - a)))))
-      → ((a b : ℕ) (left before : List ℕ) → a ≤ b → is_nil (split g left before (some (b - a))).handed ≡ false → I a left before
-      → I b (left_next g left before (some (b - a))) (before_next g left before (some (b - a))))
+      → ((a : ℕ) (left before : List ℕ) → I a left before → P left before (row a None (split g left before None)))
+      → ((a b : ℕ) (left before : List ℕ) → a ≤ b → I a left before → P left before (row a (Some b) (split g left before (Some (b - a)))))
+      → ((a b : ℕ) (left before : List ℕ) → a ≤ b → is_nil (split g left before (Some (b - a))).handed ≡ false → I a left before
+      → I b (left_next g left before (Some (b - a))) (before_next g left before (Some (b - a))))
       → (bs : List ℕ) (a : ℕ) (left before : List ℕ) → Climbs before a bs → I a left before → InTurn P left before (stages_from g a left before bs)
   stages_turn P I last more next = stages_by (λ bs a left before rows. I a left before → InTurn P left before rows)
       (λ bs a left before _ i. (last a left before i, tt))
@@ -101,20 +101,20 @@ module _ (g : Graph) (ck : Checked g) where
       stages_turn (IsSplit g) (λ _ _ _. Unit {0}) (λ _ _ _ _. refl) (λ _ _ _ _ _ _. refl) (λ _ _ _ _ _ _ _. tt) bs a left before c tt
 
   -- their ends are the levels asked for
-  ladder_more : (b : ℕ) (bs : List ℕ) (a : ℕ) (s : Stage) (rest : List Row) → Ladder b bs rest → Ladder a (b ∷ bs) (row a (some b) s ∷ rest)
+  ladder_more : (b : ℕ) (bs : List ℕ) (a : ℕ) (s : Stage) (rest : List Row) → Ladder b bs rest → Ladder a (b ∷ bs) (row a (Some b) s ∷ rest)
   ladder_more b bs a s [] w = absurd w
   ladder_more b bs a s (r ∷ rest) w = (refl, refl, w)
 
   pub stages_ladder : (bs : List ℕ) (a : ℕ) (left before : List ℕ) → Climbs before a bs → Ladder a bs (stages_from g a left before bs)
   stages_ladder = stages_by (λ bs a left before rows. Ladder a bs rows)
       (λ bs a left before _. (refl, refl))
-      (λ b bs a left before rest le n ih. ladder_more b bs a (split g left before (some (b - a))) rest ih)
+      (λ b bs a left before rest le n ih. ladder_more b bs a (split g left before (Some (b - a))) rest ih)
 
   -- each split has an input to visit, the last one too
   pub stages-read : (bs : List ℕ) (a : ℕ) (left before : List ℕ) → Climbs before a bs → something_read g left ≡ true
       → InTurn (λ l b r. something_read g l ≡ true) left before (stages_from g a left before bs)
   stages-read = stages_turn (λ l b r. something_read g l ≡ true) (λ a l b. something_read g l ≡ true) (λ _ _ _ i. i) (λ _ _ _ _ _ i. i)
-      (λ a b l f le n i. some_in (split g l f (some (b - a))).handed n (λ p m. next-reads g ck l f (some (b - a)) p m))
+      (λ a b l f le n i. some_in (split g l f (Some (b - a))).handed n (λ p m. next-reads g ck l f (Some (b - a)) p m))
 
 -- what follows from it stage by stage
 pub turn_map : (P Q : List ℕ → List ℕ → Row → Type 0) → ((left before : List ℕ) (r : Row) → P left before r → Q left before r)

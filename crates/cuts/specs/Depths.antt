@@ -1,6 +1,5 @@
 -- How deep pins and endpoints lie in the whole graph, and which stage that means.
-use Rattle.std.specs.Prelude.{◌≡◌, List, [], ◌∷◌, ℕ, suc, ◌+◌, ◌≤◌, ◌<◌, max, get_or, if◌then◌else◌}
-use Rattle.std.proofs.Math.Option.{none}
+use Rattle.std.specs.Prelude.{None, ◌≡◌, List, [], ◌∷◌, ℕ, suc, ◌+◌, ◌≤◌, ◌<◌, max, get_or, if◌then◌else◌}
 use Rattle.laws.specs.Tests.{◌≤?◌}
 use Rattle.laws.specs.Lists.{count}
 use Rattle.laws.specs.Search.{level}
@@ -30,7 +29,7 @@ first_at_least n [] = 0
 first_at_least n (b ∷ bs) = if n ≤? b then 0 else suc (first_at_least n bs)
 
 abbrev pub row_at : List Row → ℕ → Row
-row_at rows k = get_or rows k (row 0 none (record { handed = []; taken = [] }))
+row_at rows k = get_or rows k (row 0 None (record { handed = []; taken = [] }))
 
 -- levels within a stage that begins at lower: a pin handed on before lies at or below it; any other pin visited has its level counted from there
 pub record Leveled (g : Graph) (lower : ℕ) (left before : List ℕ) : Type 0 where

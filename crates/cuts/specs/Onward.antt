@@ -1,6 +1,5 @@
 -- Which pins a split hands on, said without its counting of readers.
-use Rattle.std.specs.Prelude.{◌≡◌, true, false, List, ℕ, ◌<◌}
-use Rattle.std.proofs.Math.Option.{Option}
+use Rattle.std.specs.Prelude.{Option, ◌≡◌, true, false, List, ℕ, ◌<◌}
 use Rattle.laws.specs.Lists.{count, every}
 use Rattle.rules.specs.Graph.{Graph}
 use Rattle.rules.specs.Stages.{inputs, back, order, low}

@@ -1,8 +1,8 @@
 -- No chain of gates in a stage is longer than the stage is high.
+use Rattle.std.specs.Prelude.{Option, Some}
 use mathlib.Core.Path.{◌≡◌, refl, sym, subst}
 use mathlib.Core.Logic.{◌⊎◌, inl, inr}
 use mathlib.Core.List.{List}
-use mathlib.Core.Option.{Option, some}
 use Prim.Native.Nat.{ℕ, ◌-◌, ◌≤◌, ◌<◌}
 use native.Mathlib.Omega.{arith}
 use borrow.Author.Tests.{leb-true}
@@ -49,18 +49,18 @@ module _ (g : Graph) (ck : Checked g) where
     chain_short c = omega (arith, chain_level c, chain_top c)
 
   -- what a stage takes and hands on is low
-  pub roots_low : (left before : List ℕ) (d u : ℕ) → 0 < count u (stage_roots g (split g left before (some d))) → level (back g before) u ≤ d
+  pub roots_low : (left before : List ℕ) (d u : ℕ) → 0 < count u (stage_roots g (split g left before (Some d))) → level (back g before) u ≤ d
   roots_low left before d u m = of_append u (flat (inputs g) s.taken) s.handed m
       (λ k. of_flat (inputs g) u s.taken k (λ e me mi.
-      leb-true (level (back g before) u) d (every_true (low g before (some d)) u (inputs g e) (taken_low g left before (some d) e me) mi)))
-      (λ k. leb-true (level (back g before) u) d (handed_low g left before (some d) u k))
+      leb-true (level (back g before) u) d (every_true (low g before (Some d)) u (inputs g e) (taken_low g left before (Some d) e me) mi)))
+      (λ k. leb-true (level (back g before) u) d (handed_low g left before (Some d) u k))
     where
       s : Stage
-      s = split g left before (some d)
+      s = split g left before (Some d)
 
   pub split_short : (left before : List ℕ) (r : Row) → IsSplit g left before r → Short g left before r
   split_short left before r e b u k eb c =
-      let e' : r.stage ≡ split g left before (some (b - r.lower)) = subst (λ (x : Option ℕ). r.stage ≡ split g left before (difference r.lower x)) eb e in
+      let e' : r.stage ≡ split g left before (Some (b - r.lower)) = subst (λ (x : Option ℕ). r.stage ≡ split g left before (difference r.lower x)) eb e in
       chain_short before (stage_roots g r.stage) (b - r.lower)
       (subst (λ (s : Stage). (v : ℕ) → 0 < count v (stage_roots g s) → level (back g before) v ≤ b - r.lower) (sym e')
       (roots_low left before (b - r.lower))) c

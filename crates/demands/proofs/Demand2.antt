@@ -1,9 +1,9 @@
 -- Demand 2, proved; and with demand 3, from the netlist to the stages.
+use Rattle.std.specs.Prelude.{Option, None, Some}
 use mathlib.Core.Path.{◌≡◌, refl, sym, ◌∙◌, ap, ap₂, subst}
 use mathlib.Core.Logic.{◌⊎◌, inl, inr}
 use mathlib.Core.Bool.{Bool, true, false}
 use mathlib.Core.List.{[], ◌∷◌, map}
-use mathlib.Core.Option.{Option, none, some}
 use Prim.Native.Nat.{ℕ, ◌+◌, ◌-◌, ◌<◌}
 use native.Mathlib.Omega.{arith}
 use lib.ListN.{length, get_or}
@@ -118,8 +118,8 @@ module _ (n : Netlist) (acc : Accepted n) where
 
   -- ---- 3
   mark_or_not : (p : ℕ) → p < size n → (m : Option Bool) → mark n p ≡ m → Logic n p ⊎ ((odd : Bool) × Carried n p odd)
-  mark_or_not p h none e = inl ((no_mark_iff n acc.tables acc.no_loop p h).0 e)
-  mark_or_not p h (some odd) e = inr (odd, (mark_iff n acc.tables acc.no_loop p odd h).0 e)
+  mark_or_not p h None e = inl ((no_mark_iff n acc.tables acc.no_loop p h).0 e)
+  mark_or_not p h (Some odd) e = inr (odd, (mark_iff n acc.tables acc.no_loop p odd h).0 e)
 
   same_marks : SameMarks n
   same_marks = record {
@@ -159,18 +159,18 @@ module _ (n : Netlist) where
   memory_is : (k : ℕ) → endpoint_of g' (o + d + k) ≡ Memory k
   memory_is k = let z : o + d + k - o - d ≡ k = omega arith in rw (le-ltb (o + d + k) o (omega arith), le-ltb (o + d + k) (o + d) (omega arith), z)
 
-  values_by : (src : ℕ → Bool) (e : ℕ) (x : Endpoint) → endpoint_of g' e ≡ x → values_of g' src e ≡ map (λ l. some (lit_bit g' src l)) (reads_of g' x)
-  values_by src e x q = ap (λ (y : Endpoint). map (λ l. some (lit_bit g' src l)) (reads_of g' y)) q
+  values_by : (src : ℕ → Bool) (e : ℕ) (x : Endpoint) → endpoint_of g' e ≡ x → values_of g' src e ≡ map (λ l. Some (lit_bit g' src l)) (reads_of g' x)
+  values_by src e x q = ap (λ (y : Endpoint). map (λ l. Some (lit_bit g' src l)) (reads_of g' y)) q
 
 pub demands23 : Demands23
 demands23 n acc splits rises something env v src cr so = record {
   legal = demand3 (graph_of n) splits (built_checked n acc) something rises;
   outputs = λ e p h op q. values_by n src e (Output e) (output_is n e h)
-      ∙ ap (λ (b : Bool). some b ∷ []) (ap (lit_bit (graph_of n) src) (sym q) ∙ sym ((same_bits n acc env src so).same v cr p op.inside (port_logic n acc p op)));
+      ∙ ap (λ (b : Bool). Some b ∷ []) (ap (lit_bit (graph_of n) src) (sym q) ∙ sym ((same_bits n acc env src so).same v cr p op.inside (port_logic n acc p op)));
   dffs = λ k a h ca.
       let r = dff_right n acc env src so v cr k h in
       let ea : r.activity ≡ a = one_clock n acc.tables env v (get_or (dff_cells n) k 0) #CLK r.activity a r.clock_active ca in
       values_by n src (length (graph_of n).outputs + k) (Flop k) (flop_is n k (omega (arith, dff_count n)))
-      ∙ ap₂ (λ (x y : Bool). some x ∷ some y ∷ []) (r.enable_right ∙ ap (enable_bit n v (get_or (dff_cells n) k 0)) ea) r.next_right;
+      ∙ ap₂ (λ (x y : Bool). Some x ∷ Some y ∷ []) (r.enable_right ∙ ap (enable_bit n v (get_or (dff_cells n) k 0)) ea) r.next_right;
   rams = λ k h. (values_by n src (length (graph_of n).outputs + length (graph_of n).dffs + k) (Memory k) (memory_is n k), ram_right n acc env src so v cr k h);
 }

@@ -2,13 +2,12 @@
 use mathlib.Core.Path.{◌≡◌, refl, sym, ◌∙◌}
 use mathlib.Core.Bool.{Bool, true, ◌&&◌}
 use mathlib.Core.List.{List, [], ◌∷◌, ◌++◌, append_assoc}
-use mathlib.Core.Option.{Option, none, some}
 use Prim.Native.Nat.{ℕ, ◌*◌}
 use native.Mathlib.Omega.{arith}
 use lib.ListN.{length}
 use lib.Seq.{take-append_seam, drop-append_seam}
 use borrow.Author.Tests.{ne_eqb, leb-true}
-use Rattle.std.specs.Prelude.{◌==◌}
+use Rattle.std.specs.Prelude.{Option, None, Some, ◌==◌}
 use Rattle.laws.specs.Tests.{◌≤?◌, or_else, refuse}
 use Rattle.laws.specs.Lists.{count, every, upto}
 use Rattle.laws.proofs.Tests.{by_test, if_true, if_false, and_l, and_r, or_zero, not_refused}
@@ -46,7 +45,7 @@ split_legal g ck chosen before d = record {
 pub of_split : OfSplit
 unfolding split_number
 of_split c t chosen before level handed taken work z =
-    split_legal (graph_in c t) (number_checked c t work _ true (or_zero _ _ z).0).0 chosen before (some level)
+    split_legal (graph_in c t) (number_checked c t work _ true (or_zero _ _ z).0).0 chosen before (Some level)
 
 -- ---- the stages read back from the tables
 -- an upper end that the end marker cannot be mistaken for
@@ -75,7 +74,7 @@ stages-plain : (g : Graph) (ck : Checked g) (bs : List ℕ) (a : ℕ) (left befo
 stages-plain g ck = stages_by g ck (λ bs a left before rows. every (λ b. b ≤? max_level) bs ≡ true → Plain rows)
     (λ bs a left before w m. (refl, tt))
     (λ b bs a left before rest le n ih m. (
-      if_false (b == end_marker) none (some b) (ne_eqb b end_marker (λ e.
+      if_false (b == end_marker) None (Some b) (ne_eqb b end_marker (λ e.
           omega (arith, e, leb-true b max_level (and_l (b ≤? max_level) (every (λ x. x ≤? max_level) bs) m)))),
       ih (and_r (b ≤? max_level) (every (λ x. x ≤? max_level) bs) m),
     ))

@@ -2,11 +2,10 @@
 use mathlib.Core.Path.{◌≡◌, refl, sym, ap}
 use mathlib.Core.Bool.{Bool}
 use mathlib.Core.List.{List, [], ◌∷◌, ◌++◌, map}
-use mathlib.Core.Option.{Option, none, some}
 use Prim.Native.Nat.{ℕ, ◌<◌}
 use native.Mathlib.Omega.{arith}
 use borrow.Author.Tests.{eqb-true, eqb-false}
-use Rattle.std.specs.Prelude.{◌==◌}
+use Rattle.std.specs.Prelude.{Option, None, Some, ◌==◌}
 use Rattle.laws.specs.Lists.{count}
 use Rattle.laws.proofs.Tests.{by_test, one_eq, one_ne}
 use Rattle.rules.specs.Work.{Kept, look, kept}
@@ -15,7 +14,7 @@ use Rattle.rules.specs.Work.{Kept, look, kept}
 abbrev pub pins : List Kept → List ℕ
 pins mem = map (λ r. r.pin) mem
 
-pub look-left : (mem more : List Kept) (u : ℕ) (b : Bool) → look mem u ≡ some b → look (mem ++ more) u ≡ some b
+pub look-left : (mem more : List Kept) (u : ℕ) (b : Bool) → look mem u ≡ Some b → look (mem ++ more) u ≡ Some b
 look-left [] more u b e = let z : ◌≡◌ {A = ℕ} 0 1 = cc in absurd (omega arith)
 look-left (r ∷ mem) more u b e = by_test (u == r.pin)
     (λ t. rw t (rw t at e))
@@ -27,7 +26,7 @@ look-right (r ∷ mem) more u n = by_test (u == r.pin)
     (λ t. absurd (omega (arith, one_eq u r.pin (eqb-true u r.pin t))))
     (λ f. rw f (look-right mem more u (omega arith)))
 
-pub look_none : (mem : List Kept) (u : ℕ) → count u (pins mem) ≡ 0 → look mem u ≡ none
+pub look_none : (mem : List Kept) (u : ℕ) → count u (pins mem) ≡ 0 → look mem u ≡ None
 look_none [] u n = refl
 look_none (r ∷ mem) u n = by_test (u == r.pin)
     (λ t. absurd (omega (arith, one_eq u r.pin (eqb-true u r.pin t))))

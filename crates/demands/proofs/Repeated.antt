@@ -3,11 +3,10 @@
 use mathlib.Core.Path.{◌≡◌, sym, ◌∙◌, ap}
 use mathlib.Core.Bool.{true}
 use mathlib.Core.List.{List, [], ◌∷◌, ◌++◌}
-use mathlib.Core.Option.{Option, none, some}
 use Prim.Native.Nat.{ℕ, ◌+◌, ◌-◌, ◌≤◌, ◌<◌}
 use native.Mathlib.Omega.{arith}
 use borrow.Author.Tests.{ltb-true, leb-true, le-leb}
-use Rattle.std.specs.Prelude.{if◌then◌else◌}
+use Rattle.std.specs.Prelude.{Option, None, Some, if◌then◌else◌}
 use Rattle.laws.specs.Tests.{◌<?◌, ◌≤?◌}
 use Rattle.laws.specs.Lists.{count, member, every, upto, is_nil}
 use Rattle.laws.specs.Search.{level}
@@ -31,9 +30,9 @@ use Rattle.demands.specs.Demand3.{RepeatedLevel}
 -- ---- whatever the levels, no endpoint is taken twice
 pub taken_within : (g : Graph) (bs : List ℕ) (a : ℕ) (left before : List ℕ) (e : ℕ) → count e (all_taken (stages_from g a left before bs)) ≤ count e left
 unfolding stages_from
-taken_within g [] a left before e = omega (arith, taken_le g left before none e, count-append e (split g left before none).taken [])
+taken_within g [] a left before e = omega (arith, taken_le g left before None e, count-append e (split g left before None).taken [])
 taken_within g (b ∷ bs) a left before e =
-    let d : Option ℕ = some (b - a) in
+    let d : Option ℕ = Some (b - a) in
     let s : Stage = split g left before d in
     let rest : List Row = stages_from g b (left_next g left before d) (before_next g left before d) bs in
     onward_by (λ rows. count e (all_taken rows) ≤ count e left) a b s rest
@@ -54,54 +53,54 @@ module _ (g : Graph) (ck : Checked g) where
   -- ---- the second split
   module _ (left before : List ℕ) (a b : ℕ) (le : a ≤ b) (at : Leveled g a left before) where
     abbrev left' : List ℕ
-    left' = left_next g left before (some (b - a))
+    left' = left_next g left before (Some (b - a))
 
     abbrev before' : List ℕ
-    before' = before_next g left before (some (b - a))
+    before' = before_next g left before (Some (b - a))
 
-    again_none : (split g left' before' (some (b - b))).handed ≡ []
-    again_none = none_in (split g left' before' (some (b - b))).handed (λ p. by_test (member p (split g left' before' (some (b - b))).handed)
-        (λ t. let m : 0 < count p (split g left' before' (some (b - b))).handed = member_true p (split g left' before' (some (b - b))).handed t in
-        let new : count p before' ≡ 0 = handed_new g left' before' (some (b - b)) p m in
+    again_none : (split g left' before' (Some (b - b))).handed ≡ []
+    again_none = none_in (split g left' before' (Some (b - b))).handed (λ p. by_test (member p (split g left' before' (Some (b - b))).handed)
+        (λ t. let m : 0 < count p (split g left' before' (Some (b - b))).handed = member_true p (split g left' before' (Some (b - b))).handed t in
+        let new : count p before' ≡ 0 = handed_new g left' before' (Some (b - b)) p m in
         absurd (omega (
           arith,
-          leb-true (level (back g before') p) (b - b) (handed_low g left' before' (some (b - b)) p m),
-          (leveled_next g ck left before a b le at).ahead p (handed_visited g left' before' (some (b - b)) p m) new,
-          next_high g ck left before a b le at p (handed_visited g left' before' (some (b - b)) p m) new,
+          leb-true (level (back g before') p) (b - b) (handed_low g left' before' (Some (b - b)) p m),
+          (leveled_next g ck left before a b le at).ahead p (handed_visited g left' before' (Some (b - b)) p m) new,
+          next_high g ck left before a b le at p (handed_visited g left' before' (Some (b - b)) p m) new,
         )))
-        (λ f. member_false p (split g left' before' (some (b - b))).handed f))
+        (λ f. member_false p (split g left' before' (Some (b - b))).handed f))
 
-    again_stages : (later : List ℕ) → stages_from g b left' before' (b ∷ later) ≡ row b none (split g left' before' (some (b - b))) ∷ []
+    again_stages : (later : List ℕ) → stages_from g b left' before' (b ∷ later) ≡ row b None (split g left' before' (Some (b - b))) ∷ []
     unfolding stages_from
-    again_stages later = if_true (is_nil (split g left' before' (some (b - b))).handed) _ _ (ap is_nil again_none)
+    again_stages later = if_true (is_nil (split g left' before' (Some (b - b))).handed) _ _ (ap is_nil again_none)
 
     -- so the level's two splits together take the endpoints that are not deeper than it
     again_takes : (later : List ℕ) (e : ℕ) → 0 < count e left
-        → count e ((split g left before (some (b - a))).taken ++ all_taken (stages_from g b left' before' (b ∷ later))) ≡ (if depth g e ≤? b then count e left else 0)
+        → count e ((split g left before (Some (b - a))).taken ++ all_taken (stages_from g b left' before' (b ∷ later))) ≡ (if depth g e ≤? b then count e left else 0)
     again_takes later e m = rw (again_stages later) (by_test (depth g e ≤? b)
         (λ t. rw t (omega (
           arith,
           sums,
-          low_taken g left before (some (b - a)) e (taken_by_depth g ck left before a b le at e m ∙ t),
-          taken_le g left' before' (some (b - b)) e,
-          count_removes left (split g left before (some (b - a))).taken e,
+          low_taken g left before (Some (b - a)) e (taken_by_depth g ck left before a b le at e m ∙ t),
+          taken_le g left' before' (Some (b - b)) e,
+          count_removes left (split g left before (Some (b - a))).taken e,
         )))
-        (λ f. let out : count e (split g left before (some (b - a))).taken ≡ 0 = high_left g left before (some (b - a)) e (taken_by_depth g ck left before a b le at e m ∙ f) in
+        (λ f. let out : count e (split g left before (Some (b - a))).taken ≡ 0 = high_left g left before (Some (b - a)) e (taken_by_depth g ck left before a b le at e m ∙ f) in
         rw f (omega (
           arith,
           sums,
           out,
-          high_left g left' before' (some (b - b)) e
+          high_left g left' before' (Some (b - b)) e
               (taken_by_depth g ck left' before' b b (omega arith) (leveled_next g ck left before a b le at) e
-              (omega (arith, m, out, count_removes left (split g left before (some (b - a))).taken e)) ∙ f),
+              (omega (arith, m, out, count_removes left (split g left before (Some (b - a))).taken e)) ∙ f),
         ))))
       where
-        sums : count e ((split g left before (some (b - a))).taken ++ ((split g left' before' (some (b - b))).taken ++ []))
-            ≡ count e (split g left before (some (b - a))).taken + count e (split g left' before' (some (b - b))).taken
+        sums : count e ((split g left before (Some (b - a))).taken ++ ((split g left' before' (Some (b - b))).taken ++ []))
+            ≡ count e (split g left before (Some (b - a))).taken + count e (split g left' before' (Some (b - b))).taken
         sums = omega (
           arith,
-          count-append e (split g left before (some (b - a))).taken ((split g left' before' (some (b - b))).taken ++ []),
-          count-append e (split g left' before' (some (b - b))).taken [],
+          count-append e (split g left before (Some (b - a))).taken ((split g left' before' (Some (b - b))).taken ++ []),
+          count-append e (split g left' before' (Some (b - b))).taken [],
         )
 
   -- ---- all stages
@@ -110,7 +109,7 @@ module _ (g : Graph) (ck : Checked g) where
       → count e (all_taken (stages_from g a left before (first ++ (b ∷ b ∷ later)))) ≡ (if depth g e ≤? b then count e left else 0)
   unfolding stages_from
   repeated_from [] b later a left before c at e m =
-      let d : Option ℕ = some (b - a) in
+      let d : Option ℕ = Some (b - a) in
       let s : Stage = split g left before d in
       onward_by (λ rows. count e (all_taken rows) ≡ (if depth g e ≤? b then count e left else 0)) a b s
       (stages_from g b (left_next g left before d) (before_next g left before d) (b ∷ later))
@@ -118,7 +117,7 @@ module _ (g : Graph) (ck : Checked g) where
       (omega (arith, count-append e s.taken [], low_taken g left before d e (all_taken_lem g ck left before (b - a) c.1 z e m))))
       (λ n. again_takes left before a b c.0 at later e m)
   repeated_from (x ∷ first) b later a left before c at e m =
-      let d : Option ℕ = some (x - a) in
+      let d : Option ℕ = Some (x - a) in
       let s : Stage = split g left before d in
       let rest : List Row = stages_from g x (left_next g left before d) (before_next g left before d) (first ++ (b ∷ b ∷ later)) in
       let below : x < b = rising_last x first b c.2 in

@@ -1,9 +1,9 @@
 -- Demand 3 speaks of something: M9 is cut legally by all rising levels, and it meets the bounds on stages and chains.
+use Rattle.std.specs.Prelude.{None, Some}
 use mathlib.Core.Path.{◌≡◌, refl}
 use mathlib.Core.Bool.{true}
 use mathlib.Core.List.{List, [], ◌∷◌}
 use Prim.Native.Nat.{ℕ}
-use mathlib.Core.Option.{none, some}
 use native.Mathlib.Omega.{arith}
 use lib.ListN.{length}
 use Rattle.rules.specs.Stages.{split, stages_from, stages, row}
@@ -20,10 +20,10 @@ m9_legal splits rises = demand3 M9 splits m9_checked m9_reads rises
 
 -- pins 1 to 4 are sources, 5 reads 1 and 2, 6 reads 3 and 5, 7 reads 4 and 6, and the endpoint reads 7, three gates deep
 pub m9_stages : stages M9 (0 ∷ 1 ∷ 2 ∷ []) ≡
-    row 0 (some 0) (record { handed = 4 ∷ 3 ∷ 1 ∷ 2 ∷ []; taken = [] })
-    ∷ row 0 (some 1) (record { handed = 5 ∷ []; taken = [] })
-    ∷ row 1 (some 2) (record { handed = 6 ∷ []; taken = [] })
-    ∷ row 2 none (record { handed = []; taken = 0 ∷ [] })
+    row 0 (Some 0) (record { handed = 4 ∷ 3 ∷ 1 ∷ 2 ∷ []; taken = [] })
+    ∷ row 0 (Some 1) (record { handed = 5 ∷ []; taken = [] })
+    ∷ row 1 (Some 2) (record { handed = 6 ∷ []; taken = [] })
+    ∷ row 2 None (record { handed = []; taken = 0 ∷ [] })
     ∷ []
 unfolding split stages_from
 m9_stages = refl

@@ -7,8 +7,7 @@
 -- pin of cell c with name m has activity a, and an absent pin activity 0; `next_bit`, `enable_bit` and `write_bit` are the record rules.
 -- What is built is said in `rules`, Build: `graph_of n`, and `literals_of n`, a literal for each netlist pin. `count x l` is how often x
 -- stands in the list l, so that 0 < count x l says that it is in it.
-use Rattle.std.specs.Prelude.{◌≡◌, ◌⊎◌, Bool, true, false, List, [], ◌∷◌, map, ℕ, ◌+◌, ◌≤◌, ◌<◌, length, get_or, take}
-use Rattle.std.proofs.Math.Option.{Option, some}
+use Rattle.std.specs.Prelude.{Option, Some, ◌≡◌, ◌⊎◌, Bool, true, false, List, [], ◌∷◌, map, ℕ, ◌+◌, ◌≤◌, ◌<◌, length, get_or, take}
 use Rattle.laws.specs.Lists.{count, upto}
 use Rattle.rules.specs.declared.Edge.{Edge}
 use Rattle.rules.specs.declared.Driver.TheVariants.{Port, Flag, Dff, Ram}
@@ -138,20 +137,20 @@ OfBuild = (c : NetlistCounts) (r : Rooms) (n : Netlist) (l : BuildLengths) → b
 -- ---- demands 2 and 3 together: the stages of what is built, worked in order, answer with the netlist's own bits
 -- the answers of an endpoint: the bits of the literals that it reads, in order
 abbrev pub values_of : Graph → (ℕ → Bool) → ℕ → List (Option Bool)
-values_of g src e = map (λ l. some (lit_bit g src l)) (reads g e)
+values_of g src e = map (λ l. Some (lit_bit g src l)) (reads g e)
 
 pub record StagedMeaning (n : Netlist) (env : Env) (v src : ℕ → Bool) (splits : List ℕ) : Type 0 where
   -- each endpoint is in one stage, and worked there its literals get the bits that `values_of` says
   pub legal : LegalCut (graph_of n) splits (stages (graph_of n) splits)
   -- an output: the bit of each output port that has its literal
   pub outputs : (e p : ℕ) → e < length (graph_of n).outputs → OutputPort n p → lit_at n p ≡ get_or (graph_of n).outputs e 0
-      → values_of (graph_of n) src e ≡ some (v p) ∷ []
+      → values_of (graph_of n) src e ≡ Some (v p) ∷ []
   -- a flip-flop: its enable and its next bit
   pub dffs : (k : ℕ) (a : Bool) → k < length (dff_cells n) → ClockActive n env v (get_or (dff_cells n) k 0) #CLK a
-      → values_of (graph_of n) src (length (graph_of n).outputs + k) ≡ some (enable_bit n v (get_or (dff_cells n) k 0) a) ∷ some (next_bit n v (get_or (dff_cells n) k 0)) ∷ []
+      → values_of (graph_of n) src (length (graph_of n).outputs + k) ≡ Some (enable_bit n v (get_or (dff_cells n) k 0) a) ∷ Some (next_bit n v (get_or (dff_cells n) k 0)) ∷ []
   -- a RAM: the bits of its row's literals, and these are right
   pub rams : (k : ℕ) → k < length (ram_cells n)
-      → (values_of (graph_of n) src (length (graph_of n).outputs + length (graph_of n).dffs + k) ≡ map (λ l. some (lit_bit (graph_of n) src l)) (ram_reads (ram_at (graph_of n) k)))
+      → (values_of (graph_of n) src (length (graph_of n).outputs + length (graph_of n).dffs + k) ≡ map (λ l. Some (lit_bit (graph_of n) src l)) (ram_reads (ram_at (graph_of n) k)))
       × RamRight n env v (lit_bit (graph_of n) src) (get_or (ram_cells n) k 0) (ram_at (graph_of n) k)
 
 abbrev pub Demands23 : Type 0

@@ -10,8 +10,7 @@
 -- Pins and endpoints are numbers. `count x l` is how often x stands in the list l, so `0 < count x l` says that it is in it.
 -- It is proved in proofs/Demand3, for the tables of the calls in proofs/Demand3Calls; that it fails with equal levels is in
 -- proofs/EqualLevels, what such levels lose in proofs/Repeated, and that it speaks of something in proofs/Sharp.
-use Rattle.std.specs.Prelude.{◌≡◌, ◌↔◌, Bool, true, ◌&&◌, List, [], ◌∷◌, ◌++◌, map, ℕ, ◌+◌, ◌-◌, ◌≤◌, ◌<◌, length, if◌then◌else◌}
-use Rattle.std.proofs.Math.Option.{Option, some}
+use Rattle.std.specs.Prelude.{Option, Some, ◌≡◌, ◌↔◌, Bool, true, ◌&&◌, List, [], ◌∷◌, ◌++◌, map, ℕ, ◌+◌, ◌-◌, ◌≤◌, ◌<◌, length, if◌then◌else◌}
 use Rattle.laws.specs.Tests.{◌≤?◌}
 use Rattle.laws.specs.Lists.{count, every, upto}
 use Rattle.rules.specs.Graph.{Graph, pin_count}
@@ -26,11 +25,11 @@ use Rattle.cuts.specs.Depths.{depth, first_reaching, first_at_least, row_at, Lev
 
 -- ---- what is right: each endpoint with the bits that the literals it reads have in the whole graph
 abbrev pub right : Graph → (ℕ → Bool) → List ℕ → List Answer
-right g src es = map (λ e. record { endpoint = e; values = map (λ l. some (lit_bit g src l)) (reads g e) }) es
+right g src es = map (λ e. record { endpoint = e; values = map (λ l. Some (lit_bit g src l)) (reads g e) }) es
 
 -- ---- a chain of AND gates in a stage with a finite upper end has at most upper − lower gates
 abbrev pub Short : Graph → List ℕ → List ℕ → Row → Type 0
-Short g left before r = (b u k : ℕ) → r.upper ≡ some b → GateChain g before (stage_roots g r.stage) u k → k ≤ b - r.lower
+Short g left before r = (b u k : ℕ) → r.upper ≡ Some b → GateChain g before (stage_roots g r.stage) u k → k ≤ b - r.lower
 
 -- ---- a stage hands on exactly the pins that are visited, low, not handed on before, and still read
 abbrev pub HandsOn : Graph → List ℕ → List ℕ → Row → Type 0

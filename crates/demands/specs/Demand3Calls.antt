@@ -1,6 +1,5 @@
 -- Demand 3 of the calls: over the tables that they are given, and of the tables that they leave.
-use Rattle.std.specs.Prelude.{◌≡◌, true, List, [], ◌∷◌, ℕ, zero, suc, length, get_or, take, drop, if◌then◌else◌, ◌==◌}
-use Rattle.std.proofs.Math.Option.{Option, none, some}
+use Rattle.std.specs.Prelude.{Option, None, Some, ◌≡◌, true, List, [], ◌∷◌, ℕ, zero, suc, length, get_or, take, drop, if◌then◌else◌, ◌==◌}
 use Rattle.laws.specs.Lists.{upto}
 use Rattle.rules.specs.declared.GraphCounts.{GraphCounts}
 use Rattle.rules.specs.Graph.{Graph}
@@ -19,11 +18,11 @@ OfCheck = (c : GraphCounts) (t : GraphWords) (work : ℕ) (splits : List ℕ) �
 -- ---- a split asked alone, of any endpoints and handed-on pins that it accepts
 abbrev pub OfSplit : Type 0
 OfSplit = (c : GraphCounts) (t : GraphWords) (chosen before : List ℕ) (level handed taken work : ℕ)
-    → split_number c t chosen before level handed taken work ≡ 0 → LegalSplit (graph_in c t) chosen before (some level)
+    → split_number c t chosen before level handed taken work ≡ 0 → LegalSplit (graph_in c t) chosen before (Some level)
 
 -- ---- the stages read back from the tables that a call leaves: n rows, and what they hand on and take, one stage after the other
 abbrev pub upper_in : ℕ → Option ℕ
-upper_in b = if b == end_marker then none else some b
+upper_in b = if b == end_marker then None else Some b
 
 abbrev pub rows_in : ℕ → List ℕ → List ℕ → List ℕ → List Row
 rows_in zero ws hs ts = []

@@ -1,4 +1,5 @@
 -- From empty tables through steps 1 and 2, in the code's shape.
+use Rattle.std.specs.Prelude.{Some}
 use mathlib.Core.Path.{◌≡◌, refl, sym, ap, subst, ◌∙◌}
 use mathlib.Core.Bool.{true, false}
 use mathlib.Core.List.{List, [], ◌∷◌, map}
@@ -14,7 +15,6 @@ use Rattle.laws.proofs.Words.{zeros-length, zeros_at, zero_from_zeros, filled_no
 use Rattle.rules.specs.declared.Driver.TheVariants.{Constant}
 use Rattle.rules.specs.declared.Tally.{Tally}
 use Rattle.rules.specs.declared.Rooms.{Rooms}
-use Rattle.rules.specs.declared.Decoded.TheVariants.{Is}
 use Rattle.rules.specs.Netlist.{Netlist, size, cells, start_of, kind_of, dff}
 use Rattle.rules.specs.Graph.{driver_at}
 use Rattle.rules.specs.Tables.{decode, decode_at, drivers_in}
@@ -49,7 +49,7 @@ zero_holds r = record {
   rest = zero_from_zeros (3 * (r + 1)) 3;
 }
   where
-    row : (u : ℕ) → u < 1 → decode_at (zeros (3 * (r + 1))) u ≡ Is (driver_at (Constant ∷ []) u)
+    row : (u : ℕ) → u < 1 → decode_at (zeros (3 * (r + 1))) u ≡ Some (driver_at (Constant ∷ []) u)
     row zero l = λ i. decode (zeros_at (3 * (r + 1)) 0 i) (zeros_at (3 * (r + 1)) 1 i) (zeros_at (3 * (r + 1)) 2 i)
     row (suc u) l = absurd (omega (arith, l))
 

@@ -1,4 +1,5 @@
 -- What is written is read back, and every other row is as it was; a table that holds drivers holds one more after the next row is written.
+use Rattle.std.specs.Prelude.{Some}
 use mathlib.Core.Path.{◌≡◌, refl, sym, ap, subst, ◌∙◌}
 use mathlib.Core.List.{List, [], ◌∷◌, ◌++◌}
 use mathlib.Core.Logic.{◌≢◌}
@@ -14,13 +15,12 @@ use Rattle.laws.proofs.Ranges.{map-upto, length-map-upto}
 use Rattle.rules.specs.declared.Edge.TheVariants.{Rising, Falling}
 use Rattle.rules.specs.declared.Driver.{Driver}
 use Rattle.rules.specs.declared.Driver.TheVariants.{And, Port, Flag, Dff, Ram, Constant}
-use Rattle.rules.specs.declared.Decoded.TheVariants.{Is}
 use Rattle.rules.specs.Graph.{driver_at}
 use Rattle.rules.specs.Tables.{decode, decode_at, driver_or, drivers_in}
 use Rattle.drivers.specs.Written.{word_of, written, Holds}
 
 -- the words of a driver say that driver
-pub says : (d : Driver) → decode (word_of d 0) (word_of d 1) (word_of d 2) ≡ Is d
+pub says : (d : Driver) → decode (word_of d 0) (word_of d 1) (word_of d 2) ≡ Some d
 says (And a b) = refl
 says (Port q) = refl
 says (Flag q Rising) = refl
@@ -73,7 +73,7 @@ module _ (ws : List ℕ) (u : ℕ) (d : Driver) where
     unfolding written
     word_2 = get_or-set_same (set (set ws (3 * u) (word_of d 0)) (3 * u + 1) (word_of d 1)) (3 * u + 2) (word_of d 2) 0 in_2
 
-    pub read_back : decode_at (written ws u d) u ≡ Is d
+    pub read_back : decode_at (written ws u d) u ≡ Some d
     unfolding decode_at
     read_back = (λ i. decode (word_0 i) (word_1 i) (word_2 i)) ∙ says d
 
@@ -90,13 +90,13 @@ one-longer ds d = length-append ds (d ∷ [])
 
 -- ---- a table that holds drivers
 module _ (ws : List ℕ) (ds : List Driver) (d : Driver) (h : Holds ws ds) (fits : 3 * length ds + 2 < length ws) where
-  row_after : (u : ℕ) → u < length (ds ++ (d ∷ [])) → decode_at (written ws (length ds) d) u ≡ Is (driver_at (ds ++ (d ∷ [])) u)
+  row_after : (u : ℕ) → u < length (ds ++ (d ∷ [])) → decode_at (written ws (length ds) d) u ≡ Some (driver_at (ds ++ (d ∷ [])) u)
   row_after u l = by_test (ltb u (length ds))
       (λ t. let o = ltb-true u (length ds) t in
-      read_other ws (length ds) d u (λ e. omega (arith, o, e)) ∙ h.row u o ∙ ap Is (sym (driver_old ds d u o)))
+      read_other ws (length ds) d u (λ e. omega (arith, o, e)) ∙ h.row u o ∙ ap Some (sym (driver_old ds d u o)))
       (λ f. let e : u ≡ length ds = omega (arith, l, one-longer ds d, ltb-false u (length ds) f) in
-      subst (λ (v : ℕ). decode_at (written ws (length ds) d) v ≡ Is (driver_at (ds ++ (d ∷ [])) v)) (sym e)
-      (read_back ws (length ds) d fits ∙ ap Is (sym (driver_new ds d))))
+      subst (λ (v : ℕ). decode_at (written ws (length ds) d) v ≡ Some (driver_at (ds ++ (d ∷ [])) v)) (sym e)
+      (read_back ws (length ds) d fits ∙ ap Some (sym (driver_new ds d))))
 
   rest_after : ZeroFrom (written ws (length ds) d) (3 * length (ds ++ (d ∷ [])))
   unfolding ZeroFrom

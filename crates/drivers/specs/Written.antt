@@ -1,8 +1,7 @@
 -- A driver table after a row is written, and what it is for a table to hold a list of drivers.
-use Rattle.std.specs.Prelude.{◌≡◌, List, ℕ, ◌+◌, ◌*◌, ◌<◌, ◌≤◌, length, get_or, set}
+use Rattle.std.specs.Prelude.{Some, ◌≡◌, List, ℕ, ◌+◌, ◌*◌, ◌<◌, ◌≤◌, length, get_or, set}
 use Rattle.laws.specs.Words.{ZeroFrom}
 use Rattle.rules.specs.declared.Driver.{Driver}
-use Rattle.rules.specs.declared.Decoded.TheVariants.{Is}
 use Rattle.rules.specs.Graph.{driver_at}
 use Rattle.rules.specs.Tables.{driver_words, decode_at}
 
@@ -16,5 +15,5 @@ written ws u d = set (set (set ws (3 * u) (word_of d 0)) (3 * u + 1) (word_of d 
 -- the words of a table are those of a list of drivers, and 0 past them
 pub record Holds (ws : List ℕ) (ds : List Driver) : Type 0 where
   pub long : 3 * length ds ≤ length ws
-  pub row : (u : ℕ) → u < length ds → decode_at ws u ≡ Is (driver_at ds u)
+  pub row : (u : ℕ) → u < length ds → decode_at ws u ≡ Some (driver_at ds u)
   pub rest : ZeroFrom ws (3 * length ds)

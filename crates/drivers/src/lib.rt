@@ -5,54 +5,54 @@ ghost use Rattle.std.specs.Prelude.{◌≡◌, ◌+◌, ◌*◌, ◌<◌, length
 ghost use Rattle.rules.specs.Tables.{unused, flag_in, decode, decode_at, edge_word};
 ghost use Rattle.drivers.specs.Written.{written};
 
-use rules::{Decoded, Driver, Edge, Literal};
+use rules::{Driver, Edge, Literal};
 
 // A case whose third word is not used.
-fn is_unused(b: u32, d: Driver) -> Decoded
+fn is_unused(b: u32, d: Driver) -> Option<Driver>
     ensures { result ≡ unused b d }
 {
-    if b == 0 { Decoded::Is(d) } else { Decoded::Bad }
+    if b == 0 { Some(d) } else { None }
 }
 
 // A clock flag's two words.
-fn flag_in(a: u32, b: u32) -> Decoded
+fn flag_in(a: u32, b: u32) -> Option<Driver>
     ensures { result ≡ flag_in a b }
 {
     match b {
-        0 => Decoded::Is(Driver::Flag(a, Edge::Rising)),
-        1 => Decoded::Is(Driver::Flag(a, Edge::Falling)),
-        _ => Decoded::Bad,
+        0 => Some(Driver::Flag(a, Edge::Rising)),
+        1 => Some(Driver::Flag(a, Edge::Falling)),
+        _ => None,
     }
 }
 
 // A constant uses neither word.
-fn constant_in(a: u32, b: u32) -> Decoded
+fn constant_in(a: u32, b: u32) -> Option<Driver>
     ensures { result ≡ decode 0 a b }
 {
     if a == 0 {
         is_unused(b, Driver::Constant)
     } else {
-        Decoded::Bad
+        None
     }
 }
 
 // What three words say.
-pub fn decode_words(t: u32, a: u32, b: u32) -> Decoded
+pub fn decode_words(t: u32, a: u32, b: u32) -> Option<Driver>
     ensures { result ≡ decode t a b }
 {
     match t {
         0 => constant_in(a, b),
-        1 => Decoded::Is(Driver::And(Literal { word: a }, Literal { word: b })),
+        1 => Some(Driver::And(Literal { word: a }, Literal { word: b })),
         2 => is_unused(b, Driver::Port(a)),
         3 => flag_in(a, b),
         4 => is_unused(b, Driver::Dff(a)),
         5 => is_unused(b, Driver::Ram(a)),
-        _ => Decoded::Bad,
+        _ => None,
     }
 }
 
 // The driver of a pin, or that its words are none of the cases.
-pub fn driver_at(drivers: &[u32], pin: usize) -> Decoded
+pub fn driver_at(drivers: &[u32], pin: usize) -> Option<Driver>
     requires { 3 * pin + 2 < length drivers.now }
     ensures { result ≡ decode_at drivers.now pin }
 {

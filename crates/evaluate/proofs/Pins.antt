@@ -6,7 +6,7 @@ use Prim.Native.Nat.{ℕ, zero, suc, ◌+◌, ◌-◌, ◌*◌, ◌%◌, ◌<◌
 use native.Mathlib.Omega.{arith}
 use borrow.Author.Tests.{eqb-true, eqb-false, ne_eqb}
 use lib.ListN.{get_or}
-use Rattle.std.specs.Prelude.{◌==◌}
+use Rattle.std.specs.Prelude.{Option, ◌==◌}
 use Rattle.laws.specs.Tests.{one}
 use Rattle.laws.specs.Lists.{count}
 use Rattle.laws.proofs.Tests.{by_test, true≢false}
@@ -14,7 +14,6 @@ use Rattle.laws.proofs.Bags.{here, there}
 use Rattle.laws.proofs.Ranges.{of_upto}
 use Rattle.rules.specs.declared.Driver.{Driver}
 use Rattle.rules.specs.declared.Driver.TheVariants.{And, Port, Flag, Dff, Ram, Constant}
-use Rattle.rules.specs.declared.Decoded.{Decoded}
 use Rattle.rules.specs.Graph.{Graph, pin_of, operands, driver_of}
 use Rattle.rules.specs.Work.{turned, driver_bit, bit_by, bit}
 use Rattle.rules.specs.Tables.{decode, decode_at, unused, flag_in, driver_or}
@@ -48,7 +47,7 @@ module _ (g : Graph) (src : ℕ → Bool) (below : (u o : ℕ) → 0 < count o (
 
 -- ---- three words that fit and are neither a constant's nor a gate's are a source's
 module _ (src h : ℕ → Bool) (u : ℕ) where
-  abbrev said : Decoded → Bool
+  abbrev said : Option Driver → Bool
   said d = driver_bit src h u (driver_or d)
 
   unused_source : (b : ℕ) (d : Driver) → driver_bit src h u d ≡ src u → driver_fits u (unused b d) ≡ true → said (unused b d) ≡ src u
@@ -97,7 +96,7 @@ module _ (ws sources : List ℕ) (m : ℕ) (low : 1 ≤ m) (fits : drivers_fit w
 
   pub bit-gate : tag_of ws u ≡ 1
       → pin_bit ws sources m u ≡ (turned (get_or ws (3 * u + 1) 0) (pin_bit ws sources m (first_of ws u)) && turned (get_or ws (3 * u + 2) 0) (pin_bit ws sources m (second_of ws u)))
-  bit-gate e = bit_said ∙ ap (λ (d : Decoded). driver_bit src h u (driver_or d)) (says-gate ws u e)
+  bit-gate e = bit_said ∙ ap (λ (d : Option Driver). driver_bit src h u (driver_or d)) (says-gate ws u e)
 
   pub bit_constant : tag_of ws u ≡ 0 → pin_bit ws sources m u ≡ false
   unfolding decode_at

@@ -3,14 +3,13 @@ use mathlib.Core.Path.{◌≡◌, refl, sym, ap, subst, ◌∙◌}
 use mathlib.Core.Bool.{true, false}
 use mathlib.Core.Logic.{◌⊎◌, inl, inr, ⊎_elim}
 use mathlib.Core.List.{List, [], ◌∷◌, ◌++◌}
-use mathlib.Core.Option.{some, none}
 use Prim.Native.Nat.{ℕ, zero, suc, ◌+◌, ◌-◌, ◌*◌, ◌/◌, ◌≤◌, ◌<◌, min, max}
 use native.Mathlib.Omega.{arith}
 use native.Mathlib.Numerals.{add-one}
 use lib.ListN.{length, get_or, set, length-set}
 use lib.Seq.{get_or-set_same, get_or-set_other}
 use borrow.Author.Tests.{lt-ltb, le-ltb, eq-eqb, ne_eqb, eqb-true, eqb-false, ltb-true, ltb-false}
-use Rattle.std.specs.Prelude.{◌==◌}
+use Rattle.std.specs.Prelude.{Some, None, ◌==◌}
 use Rattle.laws.specs.Tests.{◌<?◌}
 use Rattle.laws.specs.Words.{ZeroFrom}
 use Rattle.laws.proofs.Tests.{by_test, true≢false, and_l, and_r}
@@ -51,7 +50,7 @@ ready_start at w ws h z b m = record {
   bounded = b;
   wide = m;
   first = ap (λ (ds : List Driver). driver_at ds 0) alone;
-  once = λ u v lo hi x y. none u lo hi x;
+  once = λ u v lo hi x y. None u lo hi x;
   heads = λ k l. zero_from_at w at (at + rows_of ws + k) z (omega arith) ∙ sym (ap (λ (ds : List Driver). top_below ds (rows_of ws) 1 k) alone);
   links = λ g k l x. zero_from_at w at (at + g) z (omega arith) ∙ sym (ap (λ (j : ℕ). top_below (drivers_in ws 0) (rows_of ws) j k) (zero_is g l));
 }
@@ -66,8 +65,8 @@ ready_start at w ws h z b m = record {
     constant zero = refl
     constant (suc u) = refl
 
-    none : {P : Type 0} (u lo hi : ℕ) → is_pair lo hi (driver_at (drivers_in ws 0) u) ≡ true → P
-    none u lo hi x = true≢false false (sym (ap (is_pair lo hi) (ap (λ (ds : List Driver). driver_at ds u) alone ∙ constant u)) ∙ x) refl
+    None : {P : Type 0} (u lo hi : ℕ) → is_pair lo hi (driver_at (drivers_in ws 0) u) ≡ true → P
+    None u lo hi x = true≢false false (sym (ap (is_pair lo hi) (ap (λ (ds : List Driver). driver_at ds u) alone ∙ constant u)) ∙ x) refl
 
 -- ---- one driver more in the table
 module _ (at : ℕ) (w ws : List ℕ) (pins : ℕ) (d : Driver) (l : 3 * pins + 5 < length ws) (r : Ready at w ws pins) where
@@ -359,20 +358,20 @@ module _ (at : ℕ) (w ws : List ℕ) (pins lo hi r : ℕ) (ready : Ready at w w
 
 -- ---- the six ways of the AND, in order
 module _ (at : ℕ) (w ws : List ℕ) (pins a b : ℕ) (ready : Ready at w ws pins) where
-  is_short : (l : ℕ) → short_cut a b ≡ some l → Stepped at w ws pins a b w ws (Got (literal l) pins)
+  is_short : (l : ℕ) → short_cut a b ≡ Some l → Stepped at w ws pins a b w ws (Got (literal l) pins)
   unfolding and_of
   is_short l e = unchanged at (and_of (drivers_in ws pins) a b) w ws pins l ready (ap (and_by (drivers_in ws pins) a b) e)
 
-  is_pair_lem : short_cut a b ≡ none → and_of (drivers_in ws pins) a b ≡ old_or_new (is_pair (min a b) (max a b)) (gate (min a b) (max a b)) (drivers_in ws pins)
+  is_pair_lem : short_cut a b ≡ None → and_of (drivers_in ws pins) a b ≡ old_or_new (is_pair (min a b) (max a b)) (gate (min a b) (max a b)) (drivers_in ws pins)
   unfolding and_of
   is_pair_lem e = ap (and_by (drivers_in ws pins) a b) e
 
   pub first_zero : a ≡ 0 → Stepped at w ws pins a b w ws (Got (literal a) pins)
-  first_zero e = is_short a (rw (eq-eqb a 0 e) (ap some (sym e)))
+  first_zero e = is_short a (rw (eq-eqb a 0 e) (ap Some (sym e)))
 
   module _ (a≢0 : a ≡ 0 → ⊥) where
     pub second_zero : b ≡ 0 → Stepped at w ws pins a b w ws (Got (literal b) pins)
-    second_zero e = is_short b (rw (ne_eqb a 0 a≢0, eq-eqb b 0 e) (ap some (sym e)))
+    second_zero e = is_short b (rw (ne_eqb a 0 a≢0, eq-eqb b 0 e) (ap Some (sym e)))
 
     module _ (b≢0 : b ≡ 0 → ⊥) where
       pub first_one : a ≡ 1 → Stepped at w ws pins a b w ws (Got (literal b) pins)
@@ -383,7 +382,7 @@ module _ (at : ℕ) (w ws : List ℕ) (pins a b : ℕ) (ready : Ready at w ws pi
         second_one e = is_short a (rw (ne_eqb a 0 a≢0, ne_eqb b 0 b≢0, ne_eqb a 1 a≢1, eq-eqb b 1 e))
 
         module _ (b≢1 : b ≡ 1 → ⊥) (w' ws' : List ℕ) (r : AndMade) where
-          long_way : short_cut a b ≡ none
+          long_way : short_cut a b ≡ None
           long_way = rw (ne_eqb a 0 a≢0, ne_eqb b 0 b≢0, ne_eqb a 1 a≢1, ne_eqb b 1 b≢1)
 
           ordered : (lo hi : ℕ) → min a b ≡ lo → max a b ≡ hi → Paired at w ws pins lo hi w' ws' r → Stepped at w ws pins a b w' ws' r

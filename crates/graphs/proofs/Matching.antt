@@ -6,7 +6,7 @@ use Prim.Native.Nat.{ℕ, zero, suc, ◌+◌, ◌-◌, ◌*◌, ◌≤◌, ◌<�
 use native.Mathlib.Omega.{arith}
 use lib.ListN.{length, get_or}
 use borrow.Author.Tests.{lt-ltb, le-leb, leb-true, eq-eqb, eqb-true}
-use Rattle.std.specs.Prelude.{◌==◌}
+use Rattle.std.specs.Prelude.{None, Option, Some, ◌==◌}
 use Rattle.laws.specs.Tests.{◌<?◌, ◌≤?◌, one, same}
 use Rattle.laws.specs.Lists.{count, member, every, upto}
 use Rattle.laws.proofs.Tests.{by_test, true≢false, and_l, and_r, both_true, one_le}
@@ -14,8 +14,6 @@ use Rattle.laws.proofs.Bags.{every_true, every_all, member_true, member_false}
 use Rattle.laws.proofs.Ranges.{of_upto, every_upto}
 use Rattle.rules.specs.declared.Driver.{Driver}
 use Rattle.rules.specs.declared.Driver.TheVariants.{And, Port, Flag, Dff, Ram, Constant}
-use Rattle.rules.specs.declared.Decoded.{Decoded}
-use Rattle.rules.specs.declared.Decoded.TheVariants.{Is, Bad}
 use Rattle.rules.specs.Graph.{driver_at}
 use Rattle.rules.specs.Tables.{decode_at, driver_or, drivers_in}
 use Rattle.rules.specs.Refusals.{below, no_repeat, driver_fits, drivers_fit, is_dff, is_ram}
@@ -27,9 +25,9 @@ use Rattle.marks.specs.Marking.{Marks, MarkedAll, a_set, no_set}
 use Rattle.graphs.specs.Parts.{mark_matches, marks_match, pins_match, Compared}
 
 -- ---- the tag of a driver that is one of the cases
-not_bad : {P : Type 0} (u : ℕ) (x : Decoded) → driver_fits u x ≡ true → ((d : Driver) → x ≡ Is d → P) → P
-not_bad u (Is d) h k = k d refl
-not_bad u Bad h k = true≢false false h refl
+not_bad : {P : Type 0} (u : ℕ) (x : Option Driver) → driver_fits u x ≡ true → ((d : Driver) → x ≡ Some d → P) → P
+not_bad u (Some d) h k = k d refl
+not_bad u None h k = true≢false false h refl
 
 -- a test of drivers that their tags tell
 pub record Told (t : Driver → Bool) (tag : ℕ) : Type 0 where

@@ -1,5 +1,5 @@
 -- Tests on numbers and choices between two ways, in the notation that the rules are written in.
-use Rattle.std.specs.Prelude.{Bool, true, false, ℕ, zero, suc, leb, ltb, eqb}
+use Rattle.std.specs.Prelude.{Bool, true, false, ℕ, zero, suc, leb, ltb}
 
 infix 50 ◌<?◌
 infix 50 ◌≤?◌

@@ -1,8 +1,8 @@
 -- What one pin carries, in the code's shape.
+use Rattle.std.specs.Prelude.{Option, None, Some}
 use mathlib.Core.Path.{◌≡◌, refl, sym, ◌∙◌, ap, subst}
 use mathlib.Core.Bool.{Bool, true, false}
 use mathlib.Core.List.{List, []}
-use mathlib.Core.Option.{Option, none, some}
 use Prim.Native.Nat.{ℕ, zero, suc, ◌+◌, ◌*◌, ◌<◌, ◌≤◌}
 use native.Mathlib.Omega.{arith}
 use lib.ListN.{length, get_or, set}
@@ -77,9 +77,9 @@ module _ (kinds starts list pins nets : List ℕ) (p : ℕ) (what : PinRole) (e 
 
 -- ---- in words and in markers
 turned_word : (x : Option Bool) → turned (mark_word x) ≡ mark_word (turn_mark x)
-turned_word none = refl
-turned_word (some true) = refl
-turned_word (some false) = refl
+turned_word None = refl
+turned_word (Some true) = refl
+turned_word (Some false) = refl
 
 pub word_is : (w : List ℕ) (m : ℕ) (h : ℕ → Option Bool) (r : Role) → ((o : ℕ) → 0 < count o (taken_from r) → get_or w (m + o) 0 ≡ mark_word (h o)) → word_by w m r ≡ mark_word (mark_of h r)
 word_is w m h (tied b) f = refl

@@ -1,6 +1,5 @@
 -- Markers in words, and how they are worked out along the events.
-use Rattle.std.specs.Prelude.{◌≡◌, Bool, true, false, List, [], ◌∷◌, ℕ, zero, suc, ◌+◌, ◌*◌, ◌<◌, ◌≤◌, length, get_or, set}
-use Rattle.std.proofs.Math.Option.{Option, none, some}
+use Rattle.std.specs.Prelude.{Option, None, Some, ◌≡◌, Bool, true, false, List, [], ◌∷◌, ℕ, zero, suc, ◌+◌, ◌*◌, ◌<◌, ◌≤◌, length, get_or, set}
 use Rattle.laws.specs.Lists.{count}
 use Rattle.rules.specs.Netlist.{Netlist, size}
 use Rattle.rules.specs.Build.{Role, tied, wire, out_port, in_port, and_out, inv_out, buf_out, gate_out, dff_out, ram_out, nothing, role, events}
@@ -8,9 +7,9 @@ use Rattle.rules.specs.Refusals.{loop_free, mark}
 use Rattle.orders.specs.State.{events_of}
 
 abbrev pub mark_word : Option Bool → ℕ
-mark_word none = 0
-mark_word (some false) = 1
-mark_word (some true) = 2
+mark_word None = 0
+mark_word (Some false) = 1
+mark_word (Some true) = 2
 
 abbrev pub turned : ℕ → ℕ
 turned zero = 0

@@ -1,6 +1,5 @@
 -- What a split asked alone answers and leaves: h, t and w are the tables as they were lent, h', t' and w' as they come back.
-use Rattle.std.specs.Prelude.{◌≡◌, List, ℕ, length}
-use Rattle.std.proofs.Math.Option.{some}
+use Rattle.std.specs.Prelude.{Some, ◌≡◌, List, ℕ, length}
 use Rattle.laws.specs.Words.{zeros}
 use Rattle.rules.specs.declared.GraphCounts.{GraphCounts}
 use Rattle.rules.specs.declared.Parted.{Parted}
@@ -13,7 +12,7 @@ abbrev pub number_of : GraphCounts → GraphWords → List ℕ → List ℕ → 
 number_of c g chosen before level h t w = split_number c g chosen before level (length h) (length t) (length w)
 
 abbrev pub stage_of : GraphCounts → GraphWords → List ℕ → List ℕ → ℕ → Stage
-stage_of c g chosen before level = split (graph_in c g) chosen before (some level)
+stage_of c g chosen before level = split (graph_in c g) chosen before (Some level)
 
 pub record Split (c : GraphCounts) (ws os ds rs chosen before : List ℕ) (level : ℕ) (h t w h' t' w' : List ℕ) (r : Parted) : Type 0 where
   pub answer : r ≡ parted_of (number_of c (words_of ws os ds rs) chosen before level h t w) (stage_of c (words_of ws os ds rs) chosen before level)

@@ -1,4 +1,5 @@
 -- A driver table that holds a list of drivers: its words, and that fanouts may be made of it.
+use Rattle.std.specs.Prelude.{Some}
 use mathlib.Core.Path.{◌≡◌, sym, ap, ◌∙◌}
 use mathlib.Core.List.{List}
 use Prim.Native.Nat.{ℕ, zero, suc, ◌+◌, ◌-◌, ◌*◌, ◌/◌, ◌<◌}
@@ -8,7 +9,6 @@ use Rattle.laws.specs.Lists.{flat}
 use Rattle.laws.specs.Words.{filled}
 use Rattle.laws.proofs.Words.{zero_from_at, filled_is}
 use Rattle.rules.specs.declared.Driver.{Driver}
-use Rattle.rules.specs.declared.Decoded.TheVariants.{Is}
 use Rattle.rules.specs.Graph.{gate, driver_at}
 use Rattle.rules.specs.Tables.{driver_words, decode_at}
 use Rattle.drivers.specs.Written.{word_of, Holds}
@@ -20,11 +20,11 @@ use Rattle.builds.proofs.Sound as sound
 use Rattle.builds.proofs.Words.{driver_words_lem, words_say}
 
 -- word i of a row, where the row says d
-row_words_lem : (ws : List ℕ) (u : ℕ) (d : Driver) → decode_at ws u ≡ Is d → Words (get_or ws (3 * u) 0) (get_or ws (3 * u + 1) 0) (get_or ws (3 * u + 2) 0) d
+row_words_lem : (ws : List ℕ) (u : ℕ) (d : Driver) → decode_at ws u ≡ Some d → Words (get_or ws (3 * u) 0) (get_or ws (3 * u + 1) 0) (get_or ws (3 * u + 2) 0) d
 unfolding decode_at
 row_words_lem ws u d e = said (get_or ws (3 * u) 0) (get_or ws (3 * u + 1) 0) (get_or ws (3 * u + 2) 0) d e
 
-row_at : (ws : List ℕ) (u i : ℕ) (d : Driver) → decode_at ws u ≡ Is d → i < 3 → get_or ws (3 * u + i) 0 ≡ word_of d i
+row_at : (ws : List ℕ) (u i : ℕ) (d : Driver) → decode_at ws u ≡ Some d → i < 3 → get_or ws (3 * u + i) 0 ≡ word_of d i
 row_at ws u zero d e b = let z : 3 * u + 0 ≡ 3 * u = omega arith in ap (λ (j : ℕ). get_or ws j 0) z ∙ (row_words_lem ws u d e).tag
 row_at ws u (suc zero) d e b = (row_words_lem ws u d e).first
 row_at ws u (suc (suc zero)) d e b = (row_words_lem ws u d e).second
@@ -49,7 +49,7 @@ module _ (ws : List ℕ) (ds : List Driver) (h : Holds ws ds) where
 
   -- ---- the operands of the gates
   gate_is : (u : ℕ) → u < length ds → tag_of ws u ≡ 1 → driver_at ds u ≡ gate (get_or ws (3 * u + 1) 0) (get_or ws (3 * u + 2) 0)
-  gate_is u l t = let e : Is (driver_at ds u) ≡ Is (gate (get_or ws (3 * u + 1) 0) (get_or ws (3 * u + 2) 0)) = sym (h.row u l) ∙ says-gate ws u t in cc
+  gate_is u l t = let e : Some (driver_at ds u) ≡ Some (gate (get_or ws (3 * u + 1) 0) (get_or ws (3 * u + 2) 0)) = sym (h.row u l) ∙ says-gate ws u t in cc
 
   pub holds_operands : (pins : ℕ) → Sound ds → length ds ≡ pins + 1 → Operands ws (pins + 1)
   holds_operands pins s n = record {

@@ -1,9 +1,9 @@
 -- The computed number of a netlist says what the propositions of refusals 3 to 10 say: which number, and exactly when.
+use Rattle.std.specs.Prelude.{Option, None, Some}
 use mathlib.Core.Path.{◌≡◌, refl, sym, ◌∙◌, ap, subst}
 use mathlib.Core.Logic.{◌↔◌}
 use mathlib.Core.Bool.{Bool, true, false, not}
 use mathlib.Core.List.{List, [], ◌∷◌, ◌++◌}
-use mathlib.Core.Option.{Option, none, some}
 use Prim.Native.Nat.{ℕ, zero, suc, ◌<◌}
 use native.Mathlib.Omega.{arith}
 use borrow.Author.Tests.{ltb-false}
@@ -24,27 +24,27 @@ use Rattle.rules.proofs.Loops.{loop_found}
 use Rattle.rules.proofs.Markers.{Marked, made, by_net, by_port, by_buf, by_inv, carried, marked}
 
 -- ---- a computed marker is one
-no_mark : {P : Type 0} (odd : Bool) → ◌≡◌ {A = Option Bool} none (some odd) → P
+no_mark : {P : Type 0} (odd : Bool) → ◌≡◌ {A = Option Bool} None (Some odd) → P
 no_mark odd e = clash (cc)
 
-is_none_lem : (m : Option Bool) → ((odd : Bool) → m ≡ some odd → ⊥) → m ≡ none
-is_none_lem none h = refl
-is_none_lem (some b) h = absurd (h b refl)
+is_none_lem : (m : Option Bool) → ((odd : Bool) → m ≡ Some odd → ⊥) → m ≡ None
+is_none_lem None h = refl
+is_none_lem (Some b) h = absurd (h b refl)
 
-none_is : (m : Option Bool) → is_none m ≡ true → m ≡ none
-none_is none h = refl
-none_is (some b) h = true≢false false h refl
+none_is : (m : Option Bool) → is_none m ≡ true → m ≡ None
+none_is None h = refl
+none_is (Some b) h = true≢false false h refl
 
-some_is : {P : Type 0} (m : Option Bool) → is_none m ≡ false → ((odd : Bool) → m ≡ some odd → P) → P
-some_is none h k = true≢false true refl h
-some_is (some b) h k = k b refl
+some_is : {P : Type 0} (m : Option Bool) → is_none m ≡ false → ((odd : Bool) → m ≡ Some odd → P) → P
+some_is None h k = true≢false true refl h
+some_is (Some b) h k = k b refl
 
-turned : (n : Netlist) (p q : ℕ) (odd : Bool) (m : Option Bool) → ((d : Bool) → m ≡ some d → Marked n q d) → role n p ≡ inv_out q → turn_mark m ≡ some odd → Marked n p odd
-turned n p q odd none ih er eo = clash (cc)
-turned n p q odd (some d) ih er eo = let ed : not d ≡ odd = cc in subst (Marked n p) ed (by_inv er (ih d refl))
+turned : (n : Netlist) (p q : ℕ) (odd : Bool) (m : Option Bool) → ((d : Bool) → m ≡ Some d → Marked n q d) → role n p ≡ inv_out q → turn_mark m ≡ Some odd → Marked n p odd
+turned n p q odd None ih er eo = clash (cc)
+turned n p q odd (Some d) ih er eo = let ed : not d ≡ odd = cc in subst (Marked n p) ed (by_inv er (ih d refl))
 
-mark_by_lem : (n : Netlist) (p : ℕ) (odd : Bool) (h : ℕ → Option Bool) → ((q : ℕ) (d : Bool) → h q ≡ some d → Marked n q d)
-    → (r : Role) → role n p ≡ r → mark_of h r ≡ some odd → Marked n p odd
+mark_by_lem : (n : Netlist) (p : ℕ) (odd : Bool) (h : ℕ → Option Bool) → ((q : ℕ) (d : Bool) → h q ≡ Some d → Marked n q d)
+    → (r : Role) → role n p ≡ r → mark_of h r ≡ Some odd → Marked n p odd
 mark_by_lem n p odd h ih (tied b) er eo = no_mark odd eo
 mark_by_lem n p odd h ih (wire q) er eo = by_net er (ih q odd eo)
 mark_by_lem n p odd h ih (out_port q) er eo = by_port er (ih q odd eo)
@@ -57,7 +57,7 @@ mark_by_lem n p odd h ih (dff_out c) er eo = no_mark odd eo
 mark_by_lem n p odd h ih (ram_out c b) er eo = no_mark odd eo
 mark_by_lem n p odd h ih nothing er eo = no_mark odd eo
 
-mark_sound : (n : Netlist) (f p : ℕ) (odd : Bool) → mark_by n f p ≡ some odd → Marked n p odd
+mark_sound : (n : Netlist) (f p : ℕ) (odd : Bool) → mark_by n f p ≡ Some odd → Marked n p odd
 mark_sound n zero p odd e = no_mark odd e
 mark_sound n (suc f) p odd e = mark_by_lem n p odd (mark_by n f) (mark_sound n f) (role n p) refl e
 
@@ -66,7 +66,7 @@ module _ (n : Netlist) (rk : ℕ → ℕ) (falls : (u o : ℕ) → u < size n �
   onward : (p q : ℕ) (r : Role) → p < size n → role n p ≡ r → 0 < count q (visits_of n r) → (q < size n) × (rk q < rk p)
   onward p q r h e m = falls p q h (subst (λ (x : Role). 0 < count q (visits_of n x)) (sym e) m)
 
-  mark_complete : (p : ℕ) (odd : Bool) → Marked n p odd → p < size n → (f : ℕ) → rk p < f → mark_by n f p ≡ some odd
+  mark_complete : (p : ℕ) (odd : Bool) → Marked n p odd → p < size n → (f : ℕ) → rk p < f → mark_by n f p ≡ Some odd
   mark_complete p odd m h zero l = absurd (omega arith)
   mark_complete p odd (made e) h (suc f) l = ap (mark_of (mark_by n f)) e
   mark_complete p odd (by_net {q = q} e m) h (suc f) l = let w = onward p q (wire q) h e (here q []) in ap (mark_of (mark_by n f)) e ∙ mark_complete q odd m w.0 f (omega (arith, w.1))
@@ -111,13 +111,13 @@ module _ (n : Netlist) (tab : tables_number n ≡ 0) where
     visits_fall u o h m = rank_falls (next n) (size n) closed rank_low u o h m
 
     -- ---- 10
-    pub mark_iff : (p : ℕ) (odd : Bool) → p < size n → (mark n p ≡ some odd) ↔ Carried n p odd
+    pub mark_iff : (p : ℕ) (odd : Bool) → p < size n → (mark n p ≡ Some odd) ↔ Carried n p odd
     mark_iff p odd h = (
       (λ e. carried n p odd (mark_sound n (size n) p odd e)),
       λ m. mark_complete n rank_of visits_fall p odd (marked n p odd m) h (size n) (rank_low p h),
     )
 
-    pub no_mark_iff : (p : ℕ) → p < size n → (mark n p ≡ none) ↔ Logic n p
+    pub no_mark_iff : (p : ℕ) → p < size n → (mark n p ≡ None) ↔ Logic n p
     no_mark_iff p h = ((λ e odd m. no_mark odd (sym e ∙ (mark_iff p odd h).1 m)), λ l. is_none_lem (mark n p) (λ odd e. l odd ((mark_iff p odd h).0 e)))
 
     logic_inside : (c p : ℕ) → c < cells n → 0 < count p (logic_pins n c) → p < size n

@@ -1,7 +1,7 @@
 -- Orders that document 01's own numbers do not show, as the Rust printed them.
+use Rattle.std.specs.Prelude.{None, Some}
 use mathlib.Core.Path.{◌≡◌, refl}
 use mathlib.Core.List.{[], ◌∷◌}
-use mathlib.Core.Option.{none, some}
 use Rattle.laws.specs.Lists.{upto}
 use Rattle.rules.specs.declared.Driver.TheVariants.{Port, Flag, Dff, Constant}
 use Rattle.rules.specs.declared.Edge.TheVariants.{Rising}
@@ -143,6 +143,6 @@ fanouts_fall = refl
 
 -- what any earlier stage handed on is not handed on again
 pub handed_once : stage M9 (0 ∷ 1 ∷ 2 ∷ [])
-    ≡ staged (st 0 (some 0) (4 ∷ 3 ∷ 1 ∷ 2 ∷ []) [] ∷ st 0 (some 1) (5 ∷ []) [] ∷ st 1 (some 2) (6 ∷ []) [] ∷ st 2 none [] (0 ∷ []) ∷ [])
+    ≡ staged (st 0 (Some 0) (4 ∷ 3 ∷ 1 ∷ 2 ∷ []) [] ∷ st 0 (Some 1) (5 ∷ []) [] ∷ st 1 (Some 2) (6 ∷ []) [] ∷ st 2 None [] (0 ∷ []) ∷ [])
 unfolding split stages_from decode_at stages_number
 handed_once = refl

@@ -1,28 +1,16 @@
 -- What each call answers and leaves: its number, 0 for success, by the tests in document 01's order; its result tables; its answer. After any
 -- call all work words are 0. A list of single words that is lent for a result has its length as its room.
-use Rattle.std.specs.Prelude.{Bool, true, ◌&&◌, List, [], ◌∷◌, map, ℕ, zero, suc, ◌+◌, ◌-◌, ◌*◌, length, get_or, if◌then◌else◌, ◌==◌}
-use Rattle.std.proofs.Math.Option.{some}
+use Rattle.std.specs.Prelude.{Some, Result, Ok, Err, Bool, true, ◌&&◌, List, [], ◌∷◌, map, ℕ, zero, suc, ◌+◌, ◌-◌, ◌*◌, length, get_or, if◌then◌else◌, ◌==◌}
 use Rattle.laws.specs.Tests.{◌<?◌, ◌≤?◌, one, or_else, refuse}
 use Rattle.laws.specs.Lists.{every, flat, upto}
-use Rattle.rules.specs.declared.Endpoint.{Endpoint}
 use Rattle.rules.specs.declared.Tally.{Tally}
 use Rattle.rules.specs.declared.NetlistCounts.{NetlistCounts}
 use Rattle.rules.specs.declared.GraphCounts.{GraphCounts}
 use Rattle.rules.specs.declared.Rooms.{Rooms}
-use Rattle.rules.specs.declared.Done.{Done}
-use Rattle.rules.specs.declared.Done.TheVariants.{Accepted, Refused as DoneRefused}
-use Rattle.rules.specs.declared.Built.{Built}
-use Rattle.rules.specs.declared.Built.TheVariants.{Made, Refused as BuiltRefused}
-use Rattle.rules.specs.declared.Listed.{Listed}
-use Rattle.rules.specs.declared.Listed.TheVariants.{Pins, Refused as ListedRefused}
-use Rattle.rules.specs.declared.Parted.{Parted}
-use Rattle.rules.specs.declared.Parted.TheVariants.{Stage as PartedStage, Refused as PartedRefused}
-use Rattle.rules.specs.declared.Staged.{Staged}
-use Rattle.rules.specs.declared.Staged.TheVariants.{Stages, Refused as StagedRefused}
-use Rattle.rules.specs.declared.Found.{Found}
-use Rattle.rules.specs.declared.Found.TheVariants.{At, Refused as FoundRefused}
-use Rattle.rules.specs.declared.Read.{Read}
-use Rattle.rules.specs.declared.Read.TheVariants.{Pin, Refused as ReadRefused}
+use Rattle.rules.specs.declared.StageSize.{StageSize}
+use Rattle.rules.specs.declared.StagesSize.{StagesSize}
+use Rattle.rules.specs.declared.Refusal.{Refusal}
+use Rattle.rules.specs.declared.Refusal.TheVariants.{Bounds, Lengths, Kinds, Latch, PinLists, Nets, Loop, ClockCell, ClockLength, Marker, Room, Graph as GraphRefused, Levels, NothingRead, Index}
 use Rattle.rules.specs.Netlist.{Netlist}
 use Rattle.rules.specs.Graph.{Graph}
 use Rattle.rules.specs.Build.{graph_of, literals_of, fanouts, fanout_starts, tally, gate_count}
@@ -32,34 +20,43 @@ use Rattle.rules.specs.Tables.{driver_words, record_words, ram_words, GraphWords
 use Rattle.rules.specs.Refusals.{check_number, netlist_number, room_fits, drivers_fit, records_fit, rising, something_read, below, no_repeat, handed_first}
 use Rattle.rules.specs.Work.{bit}
 
--- ---- the answers: document 01's number and the values of each case
-abbrev pub done_of : ℕ → Done
-done_of zero = Accepted
-done_of (suc k) = DoneRefused (suc k)
+-- ---- the answers: document 01's number, as the refusal of that number, and the values of each case
+abbrev pub number_of : Refusal → ℕ
+number_of Bounds = 1
+number_of Lengths = 2
+number_of Kinds = 3
+number_of Latch = 4
+number_of PinLists = 5
+number_of Nets = 6
+number_of Loop = 7
+number_of ClockCell = 8
+number_of ClockLength = 9
+number_of Marker = 10
+number_of Room = 11
+number_of GraphRefused = 12
+number_of Levels = 13
+number_of NothingRead = 14
+number_of Index = 15
 
-abbrev pub built_of : ℕ → Tally → Built
-built_of zero t = Made t
-built_of (suc k) t = BuiltRefused (suc k)
+-- all refusals, in the order of their numbers
+abbrev pub refusals : List Refusal
+refusals =
+    Bounds ∷ Lengths ∷ Kinds ∷ Latch ∷ PinLists ∷ Nets ∷ Loop ∷ ClockCell ∷ ClockLength ∷ Marker ∷ Room ∷ GraphRefused ∷ Levels ∷ NothingRead ∷ Index ∷ []
 
-abbrev pub listed_of : ℕ → ℕ → Listed
-listed_of zero pins = Pins pins
-listed_of (suc k) pins = ListedRefused (suc k)
+-- a call's value where its number is 0, else the refusal
+abbrev pub answer_of : {T : Type 0} → ℕ → T → Result T Refusal
+answer_of zero v = Ok v
+answer_of (suc k) v = Err (get_or refusals k Index)
 
-abbrev pub parted_of : ℕ → Stage → Parted
-parted_of zero s = PartedStage (length s.handed) (length s.taken)
-parted_of (suc k) s = PartedRefused (suc k)
+-- of a call that gives nothing besides its tables
+abbrev pub done_of : ℕ → Result (Unit {0}) Refusal
+done_of k = answer_of k tt
 
-abbrev pub staged_of : ℕ → List Row → Staged
-staged_of zero rows = Stages (length rows) (length (all_handed rows)) (length (all_taken rows))
-staged_of (suc k) rows = StagedRefused (suc k)
+abbrev pub stage_size : Stage → StageSize
+stage_size s = record { handed = length s.handed; taken = length s.taken }
 
-abbrev pub found_of : ℕ → Endpoint → Found
-found_of zero e = At e
-found_of (suc k) e = FoundRefused (suc k)
-
-abbrev pub read_of : ℕ → ℕ → Read
-read_of zero p = Pin p
-read_of (suc k) p = ReadRefused (suc k)
+abbrev pub stages_size : List Row → StagesSize
+stages_size rows = record { stages = length rows; handed = length (all_handed rows); taken = length (all_taken rows) }
 
 -- ---- building: the counts and tables of a netlist, the rooms, and how long the lent tables are
 pub record BuildLengths : Type 0 where
@@ -111,8 +108,8 @@ build_tables k n l = record {
   fanouts = held k (fanouts (graph_of n).drivers) l.fanouts;
 }
 
-abbrev pub build_answer : ℕ → Netlist → Built
-build_answer k n = built_of k (tally (graph_of n))
+abbrev pub build_answer : ℕ → Netlist → Result Tally Refusal
+build_answer k n = answer_of k (tally (graph_of n))
 
 -- ---- calls on a driver table alone: of 12 only what speaks of drivers applies
 abbrev pub drivers_number : ℕ → List ℕ → Bool → Bool → ℕ
@@ -181,7 +178,7 @@ split_number c t chosen before level handed taken work =
     or_else (graph_number c t work ((length chosen ≤? max_list) && (length before ≤? max_list) && (level ≤? max_level) && (handed ≤? max_list) && (taken ≤? max_list)) true)
     (or_else (refuse 15 (below (endpoints c) chosen && no_repeat chosen && pin_set c.pins before))
     (or_else (refuse 14 (something_read (graph_in c t) chosen))
-    (refuse 11 (stage_fits (split (graph_in c t) chosen before (some level)) handed taken))))
+    (refuse 11 (stage_fits (split (graph_in c t) chosen before (Some level)) handed taken))))
 
 -- the stages: four words a row
 abbrev pub stages_fit : List Row → ℕ → ℕ → ℕ → Bool

@@ -1,6 +1,5 @@
 -- Document 01, "Graph and numbering", its first half: literals, drivers, records, the graph, and the AND of two literals.
-use Rattle.std.specs.Prelude.{Bool, true, false, ◌&&◌, ◌||◌, List, [], ◌∷◌, ◌++◌, ℕ, suc, ◌+◌, ◌-◌, ◌*◌, ◌/◌, ◌%◌, min, max, length, get_or, if◌then◌else◌, ◌==◌}
-use Rattle.std.proofs.Math.Option.{Option, none, some}
+use Rattle.std.specs.Prelude.{Option, None, Some, Bool, true, false, ◌&&◌, ◌||◌, List, [], ◌∷◌, ◌++◌, ℕ, suc, ◌+◌, ◌-◌, ◌*◌, ◌/◌, ◌%◌, min, max, length, get_or, if◌then◌else◌, ◌==◌}
 use Rattle.laws.specs.Tests.{◌<?◌}
 use Rattle.rules.specs.declared.Literal.{Literal}
 use Rattle.rules.specs.declared.Driver.{Driver}
@@ -110,12 +109,12 @@ is_pair a b Constant = false
 
 -- what needs no gate: a 0 gives 0, else a 1 gives the other literal
 abbrev pub short_cut : ℕ → ℕ → Option ℕ
-short_cut a b = if (a == 0) || (b == 0) then some 0 else (if a == 1 then some b else (if b == 1 then some a else none))
+short_cut a b = if (a == 0) || (b == 0) then Some 0 else (if a == 1 then Some b else (if b == 1 then Some a else None))
 
 -- else the gate of the ordered pair, smaller first
 abbrev pub and_by : List Driver → ℕ → ℕ → Option ℕ → Made
-and_by ds a b (some l) = record { drivers = ds; lit = l }
-and_by ds a b none = old_or_new (is_pair (min a b) (max a b)) (gate (min a b) (max a b)) ds
+and_by ds a b (Some l) = record { drivers = ds; lit = l }
+and_by ds a b None = old_or_new (is_pair (min a b) (max a b)) (gate (min a b) (max a b)) ds
 
 unfoldable pub and_of : List Driver → ℕ → ℕ → Made
 and_of ds a b = and_by ds a b (short_cut a b)

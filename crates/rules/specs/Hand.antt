@@ -1,6 +1,5 @@
 -- Document 01, "Numbers to check by hand" and "Errors that look reasonable": one table of questions with the answers that 01 writes.
-use Rattle.std.specs.Prelude.{Bool, true, false, List, [], ◌∷◌, ◌++◌, map, ℕ, zero, suc, ◌+◌, ◌*◌, replicate}
-use Rattle.std.proofs.Math.Option.{Option, none, some}
+use Rattle.std.specs.Prelude.{Option, None, Some, Bool, true, false, List, [], ◌∷◌, ◌++◌, map, ℕ, zero, suc, ◌+◌, ◌*◌, replicate}
 use Rattle.laws.specs.Lists.{flat, upto}
 use Rattle.rules.specs.declared.Driver.{Driver}
 use Rattle.rules.specs.declared.Driver.TheVariants.{Port, Flag, Dff, Constant}
@@ -175,8 +174,8 @@ table =
       wanted = bits (false ∷ false ∷ true ∷ true ∷ []);
     } ∷
     -- M9 and M10
-    record { asked = stage M9 (1 ∷ []); wanted = staged (st 0 (some 1) (4 ∷ 3 ∷ 5 ∷ []) [] ∷ st 1 none [] (0 ∷ []) ∷ []) } ∷
-    record { asked = stage M9 (3 ∷ []); wanted = staged (st 0 none [] (0 ∷ []) ∷ []) } ∷
+    record { asked = stage M9 (1 ∷ []); wanted = staged (st 0 (Some 1) (4 ∷ 3 ∷ 5 ∷ []) [] ∷ st 1 None [] (0 ∷ []) ∷ []) } ∷
+    record { asked = stage M9 (3 ∷ []); wanted = staged (st 0 None [] (0 ∷ []) ∷ []) } ∷
     -- M12: staging is refused
     record {
       asked = build M12;
@@ -202,11 +201,11 @@ table =
       });
     } ∷
     -- split [0] is accepted, [5, 4] refused
-    record { asked = stage M9 (0 ∷ []); wanted = staged (st 0 (some 0) (4 ∷ 3 ∷ 1 ∷ 2 ∷ []) [] ∷ st 0 none [] (0 ∷ []) ∷ []) } ∷
+    record { asked = stage M9 (0 ∷ []); wanted = staged (st 0 (Some 0) (4 ∷ 3 ∷ 1 ∷ 2 ∷ []) [] ∷ st 0 None [] (0 ∷ []) ∷ []) } ∷
     record { asked = stage M9 (5 ∷ 4 ∷ []); wanted = refused 13 } ∷
     -- the error of removing while keeping order: 3 2 is handed on, not 2 3
-    record { asked = stage swap (1 ∷ []); wanted = staged (st 0 (some 1) (3 ∷ 2 ∷ []) (0 ∷ []) ∷ st 1 none [] (1 ∷ []) ∷ []) } ∷
+    record { asked = stage swap (1 ∷ []); wanted = staged (st 0 (Some 1) (3 ∷ 2 ∷ []) (0 ∷ []) ∷ st 1 None [] (1 ∷ []) ∷ []) } ∷
     -- the error of accepting equal levels: they are refused, and the rules for stages would lose endpoint 0
     record { asked = stage M9 (1 ∷ 1 ∷ []); wanted = refused 13 } ∷
-    record { asked = staged (stages M9 (1 ∷ 1 ∷ [])); wanted = staged (st 0 (some 1) (4 ∷ 3 ∷ 5 ∷ []) [] ∷ st 1 none [] [] ∷ []) } ∷
+    record { asked = staged (stages M9 (1 ∷ 1 ∷ [])); wanted = staged (st 0 (Some 1) (4 ∷ 3 ∷ 5 ∷ []) [] ∷ st 1 None [] [] ∷ []) } ∷
     []

@@ -1,14 +1,11 @@
 -- Document 01, "What is turned away", by number. A test that passes means that the number is not given. 1, 2 and 11 speak of counts and
 -- lent tables and are said for each call in `Answers`.
-use Rattle.std.specs.Prelude.{◌≡◌, Bool, true, false, not, ◌&&◌, ◌||◌, List, [], ◌∷◌, ◌++◌, map, ℕ, zero, suc, ◌+◌, ◌*◌, ◌<◌, length, if◌then◌else◌, ◌==◌}
-use Rattle.std.proofs.Math.Option.{Option, none, some}
+use Rattle.std.specs.Prelude.{Option, None, Some, ◌≡◌, Bool, true, false, not, ◌&&◌, ◌||◌, List, [], ◌∷◌, ◌++◌, map, ℕ, zero, suc, ◌+◌, ◌*◌, ◌<◌, length, if◌then◌else◌, ◌==◌}
 use Rattle.laws.specs.Tests.{◌<?◌, ◌≤?◌, one, or_else, refuse}
 use Rattle.laws.specs.Lists.{count, keep, every, any, flat, upto}
 use Rattle.laws.specs.Search.{level_by, Chain}
 use Rattle.rules.specs.declared.Driver.{Driver}
 use Rattle.rules.specs.declared.Driver.TheVariants.{And, Port, Flag, Dff, Ram, Constant}
-use Rattle.rules.specs.declared.Decoded.{Decoded}
-use Rattle.rules.specs.declared.Decoded.TheVariants.{Is, Bad}
 use Rattle.rules.specs.declared.Tally.{Tally}
 use Rattle.rules.specs.declared.Rooms.{Rooms}
 use Rattle.rules.specs.Netlist.{
@@ -121,32 +118,32 @@ NoMarker n = (c p : ℕ) → c < cells n → 0 < count p (logic_pins n c) → Lo
 
 -- the same, computed: whether a marker reaches a pin, and whether after an odd number of INVs
 abbrev pub turn_mark : Option Bool → Option Bool
-turn_mark none = none
-turn_mark (some odd) = some (not odd)
+turn_mark None = None
+turn_mark (Some odd) = Some (not odd)
 
 abbrev pub mark_of : (ℕ → Option Bool) → Role → Option Bool
-mark_of h (tied b) = none
+mark_of h (tied b) = None
 mark_of h (wire q) = h q
 mark_of h (out_port q) = h q
-mark_of h in_port = none
-mark_of h (and_out x y z a b) = none
+mark_of h in_port = None
+mark_of h (and_out x y z a b) = None
 mark_of h (inv_out a) = turn_mark (h a)
 mark_of h (buf_out a) = h a
-mark_of h (gate_out cp e) = some false
-mark_of h (dff_out c) = none
-mark_of h (ram_out c b) = none
-mark_of h nothing = none
+mark_of h (gate_out cp e) = Some false
+mark_of h (dff_out c) = None
+mark_of h (ram_out c b) = None
+mark_of h nothing = None
 
 abbrev pub mark_by : Netlist → ℕ → ℕ → Option Bool
-mark_by n zero p = none
+mark_by n zero p = None
 mark_by n (suc f) p = mark_of (mark_by n f) (role n p)
 
 abbrev pub mark : Netlist → ℕ → Option Bool
 mark n p = mark_by n (size n) p
 
 abbrev pub is_none : Option Bool → Bool
-is_none none = true
-is_none (some b) = false
+is_none None = true
+is_none (Some b) = false
 
 abbrev pub mark_free : Netlist → Bool
 mark_free n = every (λ c. every (λ p. is_none (mark n p)) (logic_pins n c)) (upto (cells n))
@@ -175,14 +172,14 @@ room_fits t r =
 abbrev pub operand_fits : ℕ → ℕ → Bool
 operand_fits u a = (1 ≤? pin_of a) && (pin_of a <? u)
 
-abbrev pub driver_fits : ℕ → Decoded → Bool
-driver_fits u (Is (And a b)) = operand_fits u a.word && operand_fits u b.word && (a.word ≤? b.word)
-driver_fits u (Is (Port q)) = 0 <? u
-driver_fits u (Is (Flag q e)) = 0 <? u
-driver_fits u (Is (Dff c)) = 0 <? u
-driver_fits u (Is (Ram c)) = 0 <? u
-driver_fits u (Is Constant) = u == 0
-driver_fits u Bad = false
+abbrev pub driver_fits : ℕ → Option Driver → Bool
+driver_fits u (Some (And a b)) = operand_fits u a.word && operand_fits u b.word && (a.word ≤? b.word)
+driver_fits u (Some (Port q)) = 0 <? u
+driver_fits u (Some (Flag q e)) = 0 <? u
+driver_fits u (Some (Dff c)) = 0 <? u
+driver_fits u (Some (Ram c)) = 0 <? u
+driver_fits u (Some Constant) = u == 0
+driver_fits u None = false
 
 abbrev pub drivers_fit : List ℕ → ℕ → Bool
 drivers_fit ws pins = every (λ u. driver_fits u (decode_at ws u)) (upto (pins + 1))

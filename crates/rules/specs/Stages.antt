@@ -1,6 +1,5 @@
 -- Document 01, "Stages": endpoints and their inputs, traversal, levels, one split, the stages, subsets.
-use Rattle.std.specs.Prelude.{Bool, true, false, not, List, [], ◌∷◌, ◌++◌, map, ℕ, ◌+◌, ◌-◌, ◌*◌, length, get_or, if◌then◌else◌, ◌==◌}
-use Rattle.std.proofs.Math.Option.{Option, none, some}
+use Rattle.std.specs.Prelude.{Option, None, Some, Bool, true, false, not, List, [], ◌∷◌, ◌++◌, map, ℕ, ◌+◌, ◌-◌, ◌*◌, length, get_or, if◌then◌else◌, ◌==◌}
 use Rattle.laws.specs.Tests.{◌<?◌, ◌≤?◌, one}
 use Rattle.laws.specs.Lists.{count, member, keep, every, flat, over, upto, is_nil}
 use Rattle.laws.specs.Sets.{insert, remove}
@@ -71,8 +70,8 @@ abbrev pub order : Graph → List ℕ → List ℕ → List ℕ
 order g left before = visits (back g before) (flat (inputs g) left)
 
 abbrev pub within : Option ℕ → ℕ → Bool
-within (some d) k = k ≤? d
-within none k = true
+within (Some d) k = k ≤? d
+within None k = true
 
 -- a pin's level, 0 for a source or handed-on pin, is at most the difference
 abbrev pub low : Graph → List ℕ → Option ℕ → ℕ → Bool
@@ -143,13 +142,13 @@ row a b s = record { lower = a; upper = b; stage = s }
 
 -- if nothing is handed on, that stage is the last
 abbrev pub onward : ℕ → ℕ → Stage → List Row → List Row
-onward a b s rest = if is_nil s.handed then row a none s ∷ [] else row a (some b) s ∷ rest
+onward a b s rest = if is_nil s.handed then row a None s ∷ [] else row a (Some b) s ∷ rest
 
 -- endpoints taken leave their set one by one; what a stage hands on is kept for all later ones
 unfoldable pub stages_from : Graph → ℕ → List ℕ → List ℕ → List ℕ → List Row
-stages_from g a left before [] = row a none (split g left before none) ∷ []
+stages_from g a left before [] = row a None (split g left before None) ∷ []
 stages_from g a left before (b ∷ bs) =
-    let s : Stage = split g left before (some (b - a)) in
+    let s : Stage = split g left before (Some (b - a)) in
     onward a b s (stages_from g b (over remove left s.taken) (before ++ s.handed) bs)
 
 abbrev pub stages : Graph → List ℕ → List Row

@@ -1,16 +1,17 @@
 -- How a graph and its stages lie in lent words, and what a lent table holds after a call.
-use Rattle.std.specs.Prelude.{List, [], ◌∷◌, ◌++◌, map, ℕ, zero, suc, ◌+◌, ◌-◌, ◌*◌, length, get_or, if◌then◌else◌, ◌==◌}
-use Rattle.std.proofs.Math.Option.{Option, none, some}
+use Rattle.std.specs.Prelude.{Option, None, Some, List, [], ◌∷◌, ◌++◌, map, ℕ, zero, suc, ◌+◌, ◌-◌, ◌*◌, length, get_or, if◌then◌else◌, ◌==◌}
 use Rattle.laws.specs.Lists.{flat, upto}
 use Rattle.laws.specs.Words.{zeros, filled}
 use Rattle.rules.specs.declared.Edge.{Edge}
 use Rattle.rules.specs.declared.Edge.TheVariants.{Rising, Falling}
 use Rattle.rules.specs.declared.Driver.{Driver}
 use Rattle.rules.specs.declared.Driver.TheVariants.{And, Port, Flag, Dff, Ram, Constant}
-use Rattle.rules.specs.declared.Decoded.{Decoded}
-use Rattle.rules.specs.declared.Decoded.TheVariants.{Is, Bad}
 use Rattle.rules.specs.declared.Record.{Record}
 use Rattle.rules.specs.declared.GraphCounts.{GraphCounts}
+use Rattle.rules.specs.declared.NetlistTables.{NetlistTables}
+use Rattle.rules.specs.declared.GraphTables.{GraphTables}
+use Rattle.rules.specs.declared.EndTables.{EndTables}
+use Rattle.rules.specs.Netlist.{Netlist}
 use Rattle.rules.specs.Graph.{gate, RamRow, Graph}
 use Rattle.rules.specs.Stages.{Row}
 
@@ -28,22 +29,22 @@ driver_words (Dff c) = 4 ∷ c ∷ 0 ∷ []
 driver_words (Ram c) = 5 ∷ c ∷ 0 ∷ []
 
 -- what three words say; a word that a case does not use is 0, else they are none of the cases
-abbrev pub unused : ℕ → Driver → Decoded
-unused b d = if b == 0 then Is d else Bad
+abbrev pub unused : ℕ → Driver → Option Driver
+unused b d = if b == 0 then Some d else None
 
-abbrev pub flag_in : ℕ → ℕ → Decoded
-flag_in a b = if b == 0 then Is (Flag a Rising) else (if b == 1 then Is (Flag a Falling) else Bad)
+abbrev pub flag_in : ℕ → ℕ → Option Driver
+flag_in a b = if b == 0 then Some (Flag a Rising) else (if b == 1 then Some (Flag a Falling) else None)
 
-abbrev pub decode : ℕ → ℕ → ℕ → Decoded
+abbrev pub decode : ℕ → ℕ → ℕ → Option Driver
 decode t a b =
-    if t == 0 then (if a == 0 then unused b Constant else Bad)
-    else (if t == 1 then Is (gate a b)
+    if t == 0 then (if a == 0 then unused b Constant else None)
+    else (if t == 1 then Some (gate a b)
     else (if t == 2 then unused b (Port a)
     else (if t == 3 then flag_in a b
     else (if t == 4 then unused b (Dff a)
-    else (if t == 5 then unused b (Ram a) else Bad)))))
+    else (if t == 5 then unused b (Ram a) else None)))))
 
-unfoldable pub decode_at : List ℕ → ℕ → Decoded
+unfoldable pub decode_at : List ℕ → ℕ → Option Driver
 decode_at ws u = decode (get_or ws (3 * u) 0) (get_or ws (3 * u + 1) 0) (get_or ws (3 * u + 2) 0)
 
 -- ---- the records in words
@@ -71,17 +72,27 @@ ram_in ws k = record {
   write_data = words_from ws (123 * k + 91) 32;
 }
 
--- ---- a graph as it is handed in
+-- ---- a netlist and a graph as they are handed in
+abbrev pub netlist_in : NetlistTables → Netlist
+netlist_in n = record { kinds = n.kinds.now; starts = n.starts.now; list = n.list.now; pins = n.pins.now; nets = n.nets.now }
+
 pub record GraphWords : Type 0 where
   pub drivers : List ℕ
   pub outputs : List ℕ
   pub dffs : List ℕ
   pub rams : List ℕ
 
+abbrev pub words_in : GraphTables → GraphWords
+words_in g = record { drivers = g.drivers.now; outputs = g.ends.outputs.now; dffs = g.ends.dffs.now; rams = g.ends.rams.now }
+
+-- where no driver is read
+abbrev pub ends_in : EndTables → GraphWords
+ends_in e = record { drivers = []; outputs = e.outputs.now; dffs = e.dffs.now; rams = e.rams.now }
+
 -- a driver that is none of the cases is refused; until then it stands as the constant
-abbrev pub driver_or : Decoded → Driver
-driver_or (Is d) = d
-driver_or Bad = Constant
+abbrev pub driver_or : Option Driver → Driver
+driver_or (Some d) = d
+driver_or None = Constant
 
 abbrev pub drivers_in : List ℕ → ℕ → List Driver
 drivers_in ws pins = map (λ u. driver_or (decode_at ws u)) (upto (pins + 1))
@@ -106,8 +117,8 @@ abbrev pub end_marker : ℕ
 end_marker = 4294967295
 
 abbrev pub upper_word : Option ℕ → ℕ
-upper_word (some b) = b
-upper_word none = end_marker
+upper_word (Some b) = b
+upper_word None = end_marker
 
 abbrev pub row_words : Row → List ℕ
 row_words r = r.lower ∷ upper_word r.upper ∷ length r.stage.handed ∷ length r.stage.taken ∷ []

@@ -1,6 +1,5 @@
 -- The bits of a whole graph, and what it is to work its stages in order.
-use Rattle.std.specs.Prelude.{◌≡◌, ◌⊎◌, Bool, false, not, ◌&&◌, List, [], ◌∷◌, ◌++◌, map, ℕ, zero, suc, ◌%◌, ◌<◌, if◌then◌else◌, ◌==◌}
-use Rattle.std.proofs.Math.Option.{Option, none, some}
+use Rattle.std.specs.Prelude.{Option, None, Some, ◌≡◌, ◌⊎◌, Bool, false, not, ◌&&◌, List, [], ◌∷◌, ◌++◌, map, ℕ, zero, suc, ◌%◌, ◌<◌, if◌then◌else◌, ◌==◌}
 use Rattle.laws.specs.Lists.{count, flat}
 use Rattle.rules.specs.declared.Driver.{Driver}
 use Rattle.rules.specs.declared.Driver.TheVariants.{And, Port, Flag, Dff, Ram, Constant}
@@ -33,28 +32,28 @@ lit_bit g src l = turned l (bit g src (pin_of l))
 
 -- ---- one stage worked: it can read what is known, and the constant; what it may not read has no bit
 abbrev pub both : Option Bool → Option Bool → Option Bool
-both none y = none
-both (some a) none = none
-both (some a) (some b) = some (a && b)
+both None y = None
+both (Some a) None = None
+both (Some a) (Some b) = Some (a && b)
 
 abbrev pub turned_o : ℕ → Option Bool → Option Bool
-turned_o l none = none
-turned_o l (some b) = some (turned l b)
+turned_o l None = None
+turned_o l (Some b) = Some (turned l b)
 
 abbrev pub driver_work : (ℕ → Option Bool) → Driver → Option Bool
 driver_work h (And a b) = both (turned_o a.word (h (pin_of a.word))) (turned_o b.word (h (pin_of b.word)))
-driver_work h (Port q) = none
-driver_work h (Flag q e) = none
-driver_work h (Dff c) = none
-driver_work h (Ram c) = none
-driver_work h Constant = some false
+driver_work h (Port q) = None
+driver_work h (Flag q e) = None
+driver_work h (Dff c) = None
+driver_work h (Ram c) = None
+driver_work h Constant = Some false
 
 abbrev pub known_or : Option Bool → Option Bool → Option Bool
-known_or (some b) r = some b
-known_or none r = r
+known_or (Some b) r = Some b
+known_or None r = r
 
 abbrev pub work_by : Graph → (ℕ → Option Bool) → ℕ → ℕ → Option Bool
-work_by g known zero u = none
+work_by g known zero u = None
 work_by g known (suc f) u = known_or (known u) (driver_work (work_by g known f) (driver_of g u))
 
 abbrev pub work : Graph → (ℕ → Option Bool) → ℕ → Option Bool
@@ -62,12 +61,12 @@ work g known u = work_by g known (suc u) u
 
 -- ---- what a stage can read: the first, the sources' bits
 abbrev pub source_bit : (ℕ → Bool) → ℕ → Driver → Option Bool
-source_bit src u (And a b) = none
-source_bit src u (Port q) = some (src u)
-source_bit src u (Flag q e) = some (src u)
-source_bit src u (Dff c) = some (src u)
-source_bit src u (Ram c) = some (src u)
-source_bit src u Constant = none
+source_bit src u (And a b) = None
+source_bit src u (Port q) = Some (src u)
+source_bit src u (Flag q e) = Some (src u)
+source_bit src u (Dff c) = Some (src u)
+source_bit src u (Ram c) = Some (src u)
+source_bit src u Constant = None
 
 abbrev pub source_bits : Graph → (ℕ → Bool) → ℕ → Option Bool
 source_bits g src u = source_bit src u (driver_of g u)
@@ -78,7 +77,7 @@ pub record Kept : Type 0 where
   pub value : Option Bool
 
 abbrev pub look : List Kept → ℕ → Option Bool
-look [] u = none
+look [] u = None
 look (k ∷ ks) u = if u == k.pin then k.value else look ks u
 
 abbrev pub kept : (ℕ → Option Bool) → List ℕ → List Kept

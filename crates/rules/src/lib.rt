@@ -3,6 +3,10 @@
 
 ghost use Rattle.std.specs.Prelude.{◌≡◌};
 ghost use Rattle.rules.specs.Graph.{opposite, pin_of, inverted};
+ghost use Rattle.rules.specs.Answers.{number_of};
+
+use std::error::Error;
+use std::fmt;
 
 // A literal: twice its pin, and 1 more where it is inverted.
 #[derive(Clone, Copy)]
@@ -39,7 +43,7 @@ impl Literal {
     }
 }
 
-#[derive(Clone, Copy)]
+#[derive(Clone, Copy, PartialEq, Eq)]
 pub enum Edge {
     Rising,
     Falling,
@@ -55,13 +59,6 @@ pub enum Driver {
     Dff(u32),
     Ram(u32),
     Constant,
-}
-
-// What three words of a driver table say: a driver, or none of the cases.
-#[derive(Clone, Copy)]
-pub enum Decoded {
-    Is(Driver),
-    Bad,
 }
 
 // A flip-flop record: the literals of its next bit and its enable, and its pin.
@@ -118,48 +115,113 @@ pub struct Rooms {
     pub fanouts: u32,
 }
 
-// The answers. Each is the result's counts, or the number of the refusal.
-#[derive(Clone, Copy)]
-pub enum Done {
-    Accepted,
-    Refused(u32),
+// Why a call is refused, in the order of the numbers that a caller in C is told.
+#[derive(Clone, Copy, Debug, PartialEq, Eq)]
+pub enum Refusal {
+    Bounds,
+    Lengths,
+    Kinds,
+    Latch,
+    PinLists,
+    Nets,
+    Loop,
+    ClockCell,
+    ClockLength,
+    Marker,
+    Room,
+    Graph,
+    Levels,
+    NothingRead,
+    Index,
 }
 
-#[derive(Clone, Copy)]
-pub enum Built {
-    Made(Tally),
-    Refused(u32),
+impl Refusal {
+    // The refusal's number.
+    pub fn number(self) -> u32
+        ensures { result ≡ number_of self }
+    {
+        match self {
+            Refusal::Bounds => 1,
+            Refusal::Lengths => 2,
+            Refusal::Kinds => 3,
+            Refusal::Latch => 4,
+            Refusal::PinLists => 5,
+            Refusal::Nets => 6,
+            Refusal::Loop => 7,
+            Refusal::ClockCell => 8,
+            Refusal::ClockLength => 9,
+            Refusal::Marker => 10,
+            Refusal::Room => 11,
+            Refusal::Graph => 12,
+            Refusal::Levels => 13,
+            Refusal::NothingRead => 14,
+            Refusal::Index => 15,
+        }
+    }
 }
 
-// How many pins are listed.
-#[derive(Clone, Copy)]
-pub enum Listed {
-    Pins(u32),
-    Refused(u32),
+impl fmt::Display for Refusal {
+    fn fmt<W: fmt::Write>(&self, f: &mut fmt::Formatter<W>) -> fmt::Result {
+        match self {
+            Refusal::Bounds => write!(f, "a count, room or level is out of its bounds"),
+            Refusal::Lengths => write!(f, "a table is not of the length of its count"),
+            Refusal::Kinds => write!(f, "a kind is unknown, or a cell but the first is the top"),
+            Refusal::Latch => write!(f, "a cell is a latch"),
+            Refusal::PinLists => write!(f, "the pins of the cells break a rule"),
+            Refusal::Nets => write!(f, "a net has no one driver"),
+            Refusal::Loop => write!(f, "pins depend on themselves"),
+            Refusal::ClockCell => write!(f, "a clock comes from a cell that makes no clock"),
+            Refusal::ClockLength => write!(f, "a clock passes more than 64 cells"),
+            Refusal::Marker => write!(f, "a gated clock reaches a pin that must have a logic bit"),
+            Refusal::Room => write!(f, "a result table has too little room"),
+            Refusal::Graph => write!(f, "the graph breaks a rule"),
+            Refusal::Levels => write!(f, "the split levels do not rise"),
+            Refusal::NothingRead => write!(f, "no endpoint reads a pin but 0"),
+            Refusal::Index => write!(f, "an index is out of range, repeats, or stands too early"),
+        }
+    }
 }
+
+impl Error for Refusal {}
 
 // How many pins a stage hands on, and how many endpoints it takes.
 #[derive(Clone, Copy)]
-pub enum Parted {
-    Stage(u32, u32),
-    Refused(u32),
+pub struct StageSize {
+    pub handed: u32,
+    pub taken: u32,
 }
 
 // How many stages there are, how many pins they hand on in all, and how many endpoints they take.
 #[derive(Clone, Copy)]
-pub enum Staged {
-    Stages(u32, u32, u32),
-    Refused(u32),
+pub struct StagesSize {
+    pub stages: u32,
+    pub handed: u32,
+    pub taken: u32,
 }
 
+// The tables of a netlist as they are lent: a word a cell, where each cell's list begins, the pins that the lists name,
+// five words a pin, and a word a net.
 #[derive(Clone, Copy)]
-pub enum Found {
-    At(Endpoint),
-    Refused(u32),
+pub struct NetlistTables<'a> {
+    pub kinds: &'a [u32],
+    pub starts: &'a [u32],
+    pub list: &'a [u32],
+    pub pins: &'a [u32],
+    pub nets: &'a [u32],
 }
 
+// The tables of what a graph's endpoints read, with its counts: a word an output, three a flip-flop, 123 a RAM.
 #[derive(Clone, Copy)]
-pub enum Read {
-    Pin(u32),
-    Refused(u32),
+pub struct EndTables<'a> {
+    pub counts: GraphCounts,
+    pub outputs: &'a [u32],
+    pub dffs: &'a [u32],
+    pub rams: &'a [u32],
+}
+
+// A graph as it is lent: those tables, and three words a pin.
+#[derive(Clone, Copy)]
+pub struct GraphTables<'a> {
+    pub ends: EndTables<'a>,
+    pub drivers: &'a [u32],
 }

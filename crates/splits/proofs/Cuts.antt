@@ -2,11 +2,10 @@
 use mathlib.Core.Path.{◌≡◌, refl, sym, ap, subst, ◌∙◌}
 use mathlib.Core.Bool.{Bool, true, false, not}
 use mathlib.Core.List.{List, [], ◌∷◌, ◌++◌}
-use mathlib.Core.Option.{some}
 use Prim.Native.Nat.{ℕ, ◌+◌, ◌*◌, ◌<◌, ◌≤◌}
 use native.Mathlib.Omega.{arith}
 use lib.ListN.{length, get_or}
-use Rattle.std.specs.Prelude.{if◌then◌else◌, ◌==◌}
+use Rattle.std.specs.Prelude.{Some, if◌then◌else◌, ◌==◌}
 use Rattle.laws.specs.Tests.{◌≤?◌, one}
 use Rattle.laws.specs.Lists.{count, member, keep, every, flat, over}
 use Rattle.laws.specs.Search.{visits, level}
@@ -61,12 +60,12 @@ start_readers c ws os ds rs m left before p =
     ap (λ (f : ℕ → List ℕ). count p (flat (goes ws m before) (visits (goes ws m before) (flat f left)) ++ flat f left)) (sym (ins_fun c ws os ds rs m))
 
 set_listed : (c : GraphCounts) (ws os ds rs : List ℕ) (m d : ℕ) (left before : List ℕ) (p : ℕ)
-    → 0 < count p (final (graph_of c ws os ds rs m) left before (some d)).set → 0 < count p (order_in c ws os ds rs m left before)
+    → 0 < count p (final (graph_of c ws os ds rs m) left before (Some d)).set → 0 < count p (order_in c ws os ds rs m left before)
 unfolding graph_of order_in
 set_listed c ws os ds rs m d left before p h =
     subst (λ (f : ℕ → List ℕ). 0 < count p (visits (goes ws m before) (flat f left))) (sym (ins_fun c ws os ds rs m))
-    (may (goes ws m before) (inputs (graph_of c ws os ds rs m)) (low (graph_of c ws os ds rs m) before (some d))
-    (λ e. every (low (graph_of c ws os ds rs m) before (some d)) (inputs (graph_of c ws os ds rs m) e))
+    (may (goes ws m before) (inputs (graph_of c ws os ds rs m)) (low (graph_of c ws os ds rs m) before (Some d))
+    (λ e. every (low (graph_of c ws os ds rs m) before (Some d)) (inputs (graph_of c ws os ds rs m) e))
     (visits (goes ws m before) (flat (inputs (graph_of c ws os ds rs m)) left)) left p h).0
 
 module _ (c : GraphCounts) (ws os ds rs : List ℕ) (m d : ℕ) (w : List ℕ) (left : ℕ) (idle : Idle ws m (endpoints c) w left)
@@ -116,10 +115,10 @@ module _ (c : GraphCounts) (ws os ds rs : List ℕ) (m d : ℕ) (w : List ℕ) (
   pub taken_is : picks (take_test c os ds rs m w₁ d) (part w₁ (8 * m) left) ≡ (split_in c ws os ds rs m (part w (8 * m) left) (stops_of w m) d).taken
   unfolding picks take_test low_ins split_in graph_of split
   taken_is = ap (keep (take_test c os ds rs m w₁ d)) left₁
-      ∙ keep_same (take_test c os ds rs m w₁ d) (λ e. every (low (graph_of c ws os ds rs m) (stops_of w m) (some d)) (inputs (graph_of c ws os ds rs m) e)) L
-      (λ e me. every-same (low_in m w₁ d) (low (graph_of c ws os ds rs m) (stops_of w m) (some d)) (ins_of c os ds rs e)
+      ∙ keep_same (take_test c os ds rs m w₁ d) (λ e. every (low (graph_of c ws os ds rs m) (stops_of w m) (Some d)) (inputs (graph_of c ws os ds rs m) e)) L
+      (λ e me. every-same (low_in m w₁ d) (low (graph_of c ws os ds rs m) (stops_of w m) (Some d)) (ins_of c os ds rs e)
       (λ p mp. ap (λ (x : ℕ). x ≤? d) (level_word p (inputs_in e p me mp)))
-      ∙ ap (every (low (graph_of c ws os ds rs m) (stops_of w m) (some d))) (ins_same c ws os ds rs m e))
+      ∙ ap (every (low (graph_of c ws os ds rs m) (stops_of w m) (Some d))) (ins_same c ws os ds rs m e))
 
   pub cut_known : Known ws m w₁
   cut_known = record {
@@ -168,18 +167,18 @@ module _ (c : GraphCounts) (ws os ds rs : List ℕ) (m d : ℕ) (w : List ℕ) (
         (v.joins (start (graph_of c ws os ds rs m) (part w (8 * m) left) (stops_of w m)) begins))
 
     ends_are : over (take_by (ins_of c os ds rs)) (over (join_by (goes ws m (stops_of w m)) (low_in m w₁ d))
-        (start (graph_of c ws os ds rs m) (part w (8 * m) left) (stops_of w m)) us) es ≡ final (graph_of c ws os ds rs m) (part w (8 * m) left) (stops_of w m) (some d)
+        (start (graph_of c ws os ds rs m) (part w (8 * m) left) (stops_of w m)) us) es ≡ final (graph_of c ws os ds rs m) (part w (8 * m) left) (stops_of w m) (Some d)
     unfolding split_in graph_of split order_in
     ends_are = (λ i. over (take_by (ins_fun c ws os ds rs m i)) (joined_same i) (ee i))
       where
         joined_same : over (join_by nx (low_in m w₁ d)) (start (graph_of c ws os ds rs m) (part w (8 * m) left) (stops_of w m)) us
-            ≡ joined (graph_of c ws os ds rs m) (part w (8 * m) left) (stops_of w m) (some d)
-        joined_same = over-same (join_by nx (low_in m w₁ d)) (join_by nx (low (graph_of c ws os ds rs m) (stops_of w m) (some d))) us (start (graph_of c ws os ds rs m) (part w (8 * m) left) (stops_of w m))
+            ≡ joined (graph_of c ws os ds rs m) (part w (8 * m) left) (stops_of w m) (Some d)
+        joined_same = over-same (join_by nx (low_in m w₁ d)) (join_by nx (low (graph_of c ws os ds rs m) (stops_of w m) (Some d))) us (start (graph_of c ws os ds rs m) (part w (8 * m) left) (stops_of w m))
             (λ s u mu. ap (λ (b : Bool). if b then over read (begun s u) (nx u) else s) (ap (λ (x : ℕ). x ≤? d) (level_word u mu)))
-            ∙ ap (λ (f : ℕ → List ℕ). over (join_by nx (low (graph_of c ws os ds rs m) (stops_of w m) (some d)))
+            ∙ ap (λ (f : ℕ → List ℕ). over (join_by nx (low (graph_of c ws os ds rs m) (stops_of w m) (Some d)))
             (start (graph_of c ws os ds rs m) (part w (8 * m) left) (stops_of w m)) (visits nx (flat f (part w (8 * m) left)))) (ins_fun c ws os ds rs m)
 
-    set_is : part w₂ (6 * m) size ≡ (final (graph_of c ws os ds rs m) (part w (8 * m) left) (stops_of w m) (some d)).set
+    set_is : part w₂ (6 * m) size ≡ (final (graph_of c ws os ds rs m) (part w (8 * m) left) (stops_of w m) (Some d)).set
     set_is = ends_words.members ∙ ap (λ (s : Joining). s.set) ends_are
 
     stop_word : (p : ℕ) → p < m → get_or w₂ (m + p) 0 ≡ one (member p (stops_of w m))

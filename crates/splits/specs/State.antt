@@ -1,6 +1,5 @@
 -- One split in work words: between splits, after the visits, and at the end.
-use Rattle.std.specs.Prelude.{◌≡◌, ◌⊎◌, true, false, List, ◌++◌, map, ℕ, ◌+◌, ◌-◌, ◌*◌, ◌<◌, ◌≤◌, length, get_or, if◌then◌else◌}
-use Rattle.std.proofs.Math.Option.{some}
+use Rattle.std.specs.Prelude.{Some, ◌≡◌, ◌⊎◌, true, false, List, ◌++◌, map, ℕ, ◌+◌, ◌-◌, ◌*◌, ◌<◌, ◌≤◌, length, get_or, if◌then◌else◌}
 use Rattle.laws.specs.Lists.{count, member, flat, over, upto}
 use Rattle.laws.specs.Search.{visits, level}
 use Rattle.laws.specs.Words.{part}
@@ -31,7 +30,7 @@ graph_of c ws os ds rs m = record {
 
 -- the split of the endpoints left, where the stops are the pins handed on before
 unfoldable pub split_in : GraphCounts → List ℕ → List ℕ → List ℕ → List ℕ → ℕ → List ℕ → List ℕ → ℕ → Stage
-split_in c ws os ds rs m left before d = split (graph_of c ws os ds rs m) left before (some d)
+split_in c ws os ds rs m left before d = split (graph_of c ws os ds rs m) left before (Some d)
 
 -- between splits only the stops and the set of the endpoints left are in use
 pub record Idle (ws : List ℕ) (m ends : ℕ) (w : List ℕ) (left : ℕ) : Type 0 where

@@ -3,14 +3,13 @@ use mathlib.Core.Path.{◌≡◌, refl, sym, ap, subst, ◌∙◌}
 use mathlib.Core.Logic.{inl, inr}
 use mathlib.Core.Bool.{Bool, true, false, not}
 use mathlib.Core.List.{List, [], ◌∷◌, ◌++◌, append-nil, append_assoc}
-use mathlib.Core.Option.{Option, none, some}
 use Prim.Native.Nat.{ℕ, suc, ◌+◌, ◌-◌, ◌*◌, ◌<◌, ◌≤◌}
 use native.Mathlib.Numerals.{add-one}
 use native.Mathlib.Omega.{arith}
 use lib.ListN.{length, get_or, drop, length-append}
 use lib.Seq.{drop-cons, drop-length}
 use borrow.Author.Tests.{le-leb, ltb-true, ltb-false}
-use Rattle.std.specs.Prelude.{if◌then◌else◌}
+use Rattle.std.specs.Prelude.{Option, None, Some, if◌then◌else◌}
 use Rattle.laws.specs.Tests.{◌<?◌}
 use Rattle.laws.specs.Lists.{member, keep, every, over, is_nil, upto}
 use Rattle.laws.specs.Search.{level}
@@ -62,8 +61,8 @@ split_by_lem : (g : Graph) (left before : List ℕ) (d : Option ℕ) → split g
 unfolding split
 split_by_lem g left before d = refl
 
-no_end : (g : Graph) (left before : List ℕ) (d : ℕ) → ((u : ℕ) → level (back g before) u ≤ d) → split g left before (some d) ≡ split g left before none
-no_end g left before d h = split_by_lem g left before (some d) ∙ (λ i. split_by g left before (λ u. le-leb (level (back g before) u) d (h u) i)) ∙ sym (split_by_lem g left before none)
+no_end : (g : Graph) (left before : List ℕ) (d : ℕ) → ((u : ℕ) → level (back g before) u ≤ d) → split g left before (Some d) ≡ split g left before None
+no_end g left before d h = split_by_lem g left before (Some d) ∙ (λ i. split_by g left before (λ u. le-leb (level (back g before) u) d (h u) i)) ∙ sym (split_by_lem g left before None)
 
 -- the levels of a graph of few pins are small
 levels_small : (c : GraphCounts) (ws os ds rs before : List ℕ) → Checked (graph_in c (words_of ws os ds rs)) → c.pins ≤ 16777215
@@ -168,41 +167,41 @@ module _ (c : GraphCounts) (ws os ds rs splits w₀ l₀ h₀ t₀ w l h t : Lis
 
     -- the rest begins with this stage; where pins are handed on there is a level and the rest goes on from it
     abbrev Rest : Type 0
-    Rest = ((S.handed ≡ [] → stages_from g lower L B (drop i splits) ≡ row lower none S ∷ []))
+    Rest = ((S.handed ≡ [] → stages_from g lower L B (drop i splits) ≡ row lower None S ∷ []))
         × (is_nil S.handed ≡ false → (i < length splits) × (upper ≡ get_or splits i 0)
-        × (stages_from g lower L B (drop i splits) ≡ row lower (some upper) S ∷ stages_from g upper (over remove L S.taken) (B ++ S.handed) (drop (suc i) splits)))
+        × (stages_from g lower L B (drop i splits) ≡ row lower (Some upper) S ∷ stages_from g upper (over remove L S.taken) (B ++ S.handed) (drop (suc i) splits)))
 
     rest_is : LevelAt splits i lower upper d → Rest
     unfolding stages_from stage_in
     rest_is (at_level li eu ed) =
         let b = get_or splits i 0 in
         let de : drop i splits ≡ get_or splits i 0 ∷ drop (suc i) splits = drop-cons splits i 0 li in (
-          (λ z. ap (stages_from g lower L B) de ∙ onward_nil (split g L B (some (get_or splits i 0 - lower))) (ap (λ (x : ℕ). (split g L B (some x)).handed) (sym ed) ∙ z)
-              ∙ ap (λ (x : ℕ). row lower none (split g L B (some x)) ∷ []) (sym ed)),
+          (λ z. ap (stages_from g lower L B) de ∙ onward_nil (split g L B (Some (get_or splits i 0 - lower))) (ap (λ (x : ℕ). (split g L B (Some x)).handed) (sym ed) ∙ z)
+              ∙ ap (λ (x : ℕ). row lower None (split g L B (Some x)) ∷ []) (sym ed)),
           λ n. (
             li,
             eu,
-            ap (stages_from g lower L B) de ∙ onward-more (split g L B (some (get_or splits i 0 - lower))) (ap (λ (x : ℕ). is_nil (split g L B (some x)).handed) (sym ed) ∙ n)
-                ∙ (λ j. row lower (some (sym eu j)) (split g L B (some (sym ed j))) ∷ stages_from g (sym eu j) (over remove L (split g L B (some (sym ed j))).taken) (B ++ (split g L B (some (sym ed j))).handed) (drop (suc i) splits)),
+            ap (stages_from g lower L B) de ∙ onward-more (split g L B (Some (get_or splits i 0 - lower))) (ap (λ (x : ℕ). is_nil (split g L B (Some x)).handed) (sym ed) ∙ n)
+                ∙ (λ j. row lower (Some (sym eu j)) (split g L B (Some (sym ed j))) ∷ stages_from g (sym eu j) (over remove L (split g L B (Some (sym ed j))).taken) (B ++ (split g L B (Some (sym ed j))).handed) (drop (suc i) splits)),
           ),
         )
       where
-        onward_nil : (x : Stage) → x.handed ≡ [] → onward lower (get_or splits i 0) x (stages_from g (get_or splits i 0) (over remove L x.taken) (B ++ x.handed) (drop (suc i) splits)) ≡ row lower none x ∷ []
-        onward_nil x z = ap (λ (y : List ℕ). if is_nil y then row lower none x ∷ [] else row lower (some (get_or splits i 0)) x ∷ stages_from g (get_or splits i 0) (over remove L x.taken) (B ++ x.handed) (drop (suc i) splits)) z
+        onward_nil : (x : Stage) → x.handed ≡ [] → onward lower (get_or splits i 0) x (stages_from g (get_or splits i 0) (over remove L x.taken) (B ++ x.handed) (drop (suc i) splits)) ≡ row lower None x ∷ []
+        onward_nil x z = ap (λ (y : List ℕ). if is_nil y then row lower None x ∷ [] else row lower (Some (get_or splits i 0)) x ∷ stages_from g (get_or splits i 0) (over remove L x.taken) (B ++ x.handed) (drop (suc i) splits)) z
 
         onward-more : (x : Stage) → is_nil x.handed ≡ false → onward lower (get_or splits i 0) x (stages_from g (get_or splits i 0) (over remove L x.taken) (B ++ x.handed) (drop (suc i) splits))
-            ≡ row lower (some (get_or splits i 0)) x ∷ stages_from g (get_or splits i 0) (over remove L x.taken) (B ++ x.handed) (drop (suc i) splits)
+            ≡ row lower (Some (get_or splits i 0)) x ∷ stages_from g (get_or splits i 0) (over remove L x.taken) (B ++ x.handed) (drop (suc i) splits)
         onward-more x n = rw n
     rest_is (none_left li eu ed) =
         let de : drop i splits ≡ [] = (let q : i ≡ length splits = omega (arith, s.inside) in ap (λ (k : ℕ). drop k splits) q ∙ drop-length splits) in
-        let ne : split g L B (some d) ≡ split g L B none = ap (λ (x : ℕ). split g L B (some x)) ed ∙ no_end g L B end_marker (levels_small c ws os ds rs B s.turn.sound.checked s.turn.sound.few) in (
-          (λ z. ap (stages_from g lower L B) de ∙ ap (λ (x : Stage). row lower none x ∷ []) (sym ne)),
-          λ n. true≢false (is_nil (split g L B none).handed) (ap is_nil (last_hands_none g s.turn.sound.checked L B)) (ap (λ (x : Stage). is_nil x.handed) (sym ne) ∙ n),
+        let ne : split g L B (Some d) ≡ split g L B None = ap (λ (x : ℕ). split g L B (Some x)) ed ∙ no_end g L B end_marker (levels_small c ws os ds rs B s.turn.sound.checked s.turn.sound.few) in (
+          (λ z. ap (stages_from g lower L B) de ∙ ap (λ (x : Stage). row lower None x ∷ []) (sym ne)),
+          λ n. true≢false (is_nil (split g L B None).handed) (ap is_nil (last_hands_none g s.turn.sound.checked L B)) (ap (λ (x : Stage). is_nil x.handed) (sym ne) ∙ n),
         )
 
     reads_on : is_nil S.handed ≡ false → something_read g (over remove L S.taken) ≡ true
     unfolding stage_in
-    reads_on n = some_in (split g L B (some d)).handed n (λ p m. next-reads g s.turn.sound.checked L B (some d) p m)
+    reads_on n = some_in (split g L B (Some d)).handed n (λ p m. next-reads g s.turn.sound.checked L B (Some d) p m)
 
     module _ (w' l' h' t' : List ℕ) (x : Step) (q : Turned c ws os ds rs w l h t at upper d w' l' h' t' x) where
       lengths_of_lem : Turned c ws os ds rs w l h t at upper d w' l' h' t' x → Lengths w₀ l₀ h₀ t₀ w' l' h' t'
@@ -235,8 +234,8 @@ module _ (c : GraphCounts) (ws os ds rs splits w₀ l₀ h₀ t₀ w l h t : Lis
 
         first_row : {P : Type 0} → ((u : Option ℕ) (rest : List Row) → stages_in c ws os ds rs splits ≡ s.done ++ (row lower u S ∷ rest) → P) → P
         first_row k = by_test (is_nil S.handed)
-            (λ e. k none [] (s.rest ∙ ap (λ (z : List Row). s.done ++ z) ((rest_is lv).0 (nil_is S.handed e))))
-            (λ n. k (some upper) (stages_from g upper (over remove L S.taken) (B ++ S.handed) (drop (suc i) splits)) (s.rest ∙ ap (λ (z : List Row). s.done ++ z) ((rest_is lv).1 n).2))
+            (λ e. k None [] (s.rest ∙ ap (λ (z : List Row). s.done ++ z) ((rest_is lv).0 (nil_is S.handed e))))
+            (λ n. k (Some upper) (stages_from g upper (over remove L S.taken) (B ++ S.handed) (drop (suc i) splits)) (s.rest ∙ ap (λ (z : List Row). s.done ++ z) ((rest_is lv).1 n).2))
 
         sizes : (u : Option ℕ) (rest : List Row) → stages_in c ws os ds rs splits ≡ s.done ++ (row lower u S ∷ rest)
             → (r + 4 ≤ length (stage_rows (stages_in c ws os ds rs splits))) × (nh + length S.handed ≤ length (all_handed (stages_in c ws os ds rs splits)))
@@ -294,11 +293,11 @@ module _ (c : GraphCounts) (ws os ds rs splits w₀ l₀ h₀ t₀ w l h t : Lis
           at_end : Turned c ws os ds rs w l h t at upper d w' l' h' t' x → x.last ≡ true
               → Planned c ws os ds rs splits w₀ l₀ h₀ t₀ w' l' h' t' (record { rows = x.rows; handed = x.handed; taken = x.taken; number = 0 })
           at_end (ended rd z ph pt pl lw la fi) k =
-              let all : stages_in c ws os ds rs splits ≡ s.done ++ (row lower none S ∷ []) = s.rest ∙ ap (λ (v : List Row). s.done ++ v) ((rest_is lv).0 z) in
+              let all : stages_in c ws os ds rs splits ≡ s.done ++ (row lower None S ∷ []) = s.rest ∙ ap (λ (v : List Row). s.done ++ v) ((rest_is lv).0 z) in
               laid something pl.ready ph.ready pt.ready
-              (pl.words ∙ (λ j. s.rows_are j ++ (lower ∷ end_marker ∷ length (sym z j) ∷ length S.taken ∷ [])) ∙ sym (rows_more none) ∙ ap stage_rows (sym all))
-              (ph.words ∙ ap (λ (v : List ℕ). v ++ S.handed) s.handed_are ∙ sym (handed_more none) ∙ ap all_handed (sym all))
-              (pt.words ∙ ap (λ (v : List ℕ). v ++ S.taken) s.taken_are ∙ sym (taken_more none) ∙ ap all_taken (sym all))
+              (pl.words ∙ (λ j. s.rows_are j ++ (lower ∷ end_marker ∷ length (sym z j) ∷ length S.taken ∷ [])) ∙ sym (rows_more None) ∙ ap stage_rows (sym all))
+              (ph.words ∙ ap (λ (v : List ℕ). v ++ S.handed) s.handed_are ∙ sym (handed_more None) ∙ ap all_handed (sym all))
+              (pt.words ∙ ap (λ (v : List ℕ). v ++ S.taken) s.taken_are ∙ sym (taken_more None) ∙ ap all_taken (sym all))
               (lengths_of_lem (ended rd z ph pt pl lw la fi)) refl
           at_end (goes_on rd z ph pt pl id le be lw la fi) k = true≢false x.last k la
           at_end (narrow rd a lw ll lh lt fi) k = true≢false x.fits fits fi
@@ -332,13 +331,13 @@ module _ (c : GraphCounts) (ws os ds rs splits w₀ l₀ h₀ t₀ w l h t : Lis
                 few = s.few;
                 climb = λ lj. omega (arith, eu, climb_next (get_or splits i 0) splits i up lj);
                 climbs = subst (λ (v : ℕ). rising (drop v splits) ≡ true) (sym (add-one i)) (tail_rises (get_or splits i 0) (drop (suc i) splits) up);
-                done = s.done ++ (row lower (some upper) S ∷ []);
+                done = s.done ++ (row lower (Some upper) S ∷ []);
                 rest = s.rest ∙ ap (λ (v : List Row). s.done ++ v) n.2
-                    ∙ sym (append_assoc s.done (row lower (some upper) S ∷ []) (stages_from g upper (over remove L S.taken) (B ++ S.handed) (drop (suc i) splits)))
-                    ∙ (λ j. (s.done ++ (row lower (some upper) S ∷ [])) ++ stages_from g upper (sym le j) (sym ph.words j) (drop (sym (add-one i) j) splits));
-                rows_are = pl.words ∙ ap (λ (v : List ℕ). v ++ (lower ∷ upper ∷ length S.handed ∷ length S.taken ∷ [])) s.rows_are ∙ sym (rows_more (some upper));
-                handed_are = ph.words ∙ ap (λ (v : List ℕ). v ++ S.handed) s.handed_are ∙ sym (handed_more (some upper));
-                taken_are = pt.words ∙ ap (λ (v : List ℕ). v ++ S.taken) s.taken_are ∙ sym (taken_more (some upper));
+                    ∙ sym (append_assoc s.done (row lower (Some upper) S ∷ []) (stages_from g upper (over remove L S.taken) (B ++ S.handed) (drop (suc i) splits)))
+                    ∙ (λ j. (s.done ++ (row lower (Some upper) S ∷ [])) ++ stages_from g upper (sym le j) (sym ph.words j) (drop (sym (add-one i) j) splits));
+                rows_are = pl.words ∙ ap (λ (v : List ℕ). v ++ (lower ∷ upper ∷ length S.handed ∷ length S.taken ∷ [])) s.rows_are ∙ sym (rows_more (Some upper));
+                handed_are = ph.words ∙ ap (λ (v : List ℕ). v ++ S.handed) s.handed_are ∙ sym (handed_more (Some upper));
+                taken_are = pt.words ∙ ap (λ (v : List ℕ). v ++ S.taken) s.taken_are ∙ sym (taken_more (Some upper));
                 read = λ _. ap (something_read g) le ∙ reads_on z;
                 first = λ _. something;
                 start = λ e. absurd (omega (arith, e));

@@ -3,11 +3,10 @@ use mathlib.Core.Path.{◌≡◌, refl, sym, ap, subst, ◌∙◌}
 use mathlib.Core.Logic.{inl, inr}
 use mathlib.Core.Bool.{Bool, true, false}
 use mathlib.Core.List.{List, [], ◌∷◌, ◌++◌}
-use mathlib.Core.Option.{some}
 use Prim.Native.Nat.{ℕ, ◌+◌, ◌-◌, ◌*◌, ◌<◌, ◌≤◌}
 use native.Mathlib.Omega.{arith}
 use lib.ListN.{length, get_or}
-use Rattle.std.specs.Prelude.{if◌then◌else◌}
+use Rattle.std.specs.Prelude.{Some, if◌then◌else◌}
 use Rattle.laws.specs.Tests.{◌<?◌, one}
 use Rattle.laws.specs.Lists.{count, member, over, is_nil}
 use Rattle.laws.specs.Sets.{remove}
@@ -138,12 +137,12 @@ module _ (c : GraphCounts) (ws os ds rs w l h t : List ℕ) (at : Run) (upper d 
 
       handed_inside : (p : ℕ) → 0 < count p S.handed → p < c.pins + 1
       unfolding stage_in
-      handed_inside p k = omega (arith, (handed_fits (graph_in c (words_of ws os ds rs)) T.sound.checked L B (some d) p k).1, pins_are c ws os ds rs)
+      handed_inside p k = omega (arith, (handed_fits (graph_in c (words_of ws os ds rs)) T.sound.checked L B (Some d) p k).1, pins_are c ws os ds rs)
 
       taken_inside : (e : ℕ) → 0 < count e S.taken → e < endpoints c
       unfolding stage_in
       taken_inside e k = part_in w (8 * (c.pins + 1)) at.left e (omega (arith, T.idle.lefts.long, T.idle.lefts.few))
-          (omega (arith, k, taken_le (graph_in c (words_of ws os ds rs)) L B (some d) e)) (λ j lj ej. omega (arith, T.idle.lefts.inside j lj))
+          (omega (arith, k, taken_le (graph_in c (words_of ws os ds rs)) L B (Some d) e)) (λ j lj ej. omega (arith, T.idle.lefts.inside j lj))
 
       pub turn_used : Used (c.pins + 1) w₁ r.listed r.size
       turn_used = (got q).2

@@ -1,6 +1,5 @@
 -- One stage: where it begins and what it leaves.
-use Rattle.std.specs.Prelude.{◌≡◌, ◌⊎◌, true, false, List, [], ◌∷◌, ℕ, ◌+◌, ◌*◌, ◌<◌, ◌≤◌, length}
-use Rattle.std.proofs.Math.Option.{some}
+use Rattle.std.specs.Prelude.{Some, ◌≡◌, ◌⊎◌, true, false, List, [], ◌∷◌, ℕ, ◌+◌, ◌*◌, ◌<◌, ◌≤◌, length}
 use Rattle.laws.specs.Lists.{count, over, is_nil}
 use Rattle.laws.specs.Sets.{remove}
 use Rattle.laws.specs.Words.{part}
@@ -34,7 +33,7 @@ pub record Turn (c : GraphCounts) (ws os ds rs w l h t : List ℕ) (at : Run) : 
 
 -- the stage as the rules say it
 unfoldable pub stage_in : GraphCounts → List ℕ → List ℕ → List ℕ → List ℕ → List ℕ → List ℕ → Run → ℕ → Stage
-stage_in c ws os ds rs w h at d = split (graph_in c (words_of ws os ds rs)) (part w (8 * (c.pins + 1)) at.left) (part h 0 at.handed) (some d)
+stage_in c ws os ds rs w h at d = split (graph_in c (words_of ws os ds rs)) (part w (8 * (c.pins + 1)) at.left) (part h 0 at.handed) (Some d)
 
 -- what is read is a pin other than 0
 pub record Read (c : GraphCounts) (ws os ds rs w : List ℕ) (at : Run) (r : Step) : Type 0 where

@@ -2,14 +2,13 @@
 use mathlib.Core.Path.{◌≡◌, refl, sym, ◌∙◌, ap, ap₂}
 use mathlib.Core.Bool.{Bool, true, false, ◌&&◌, ◌||◌}
 use mathlib.Core.List.{List, [], ◌∷◌}
-use mathlib.Core.Option.{Option, none, some}
 use Prim.Native.Nat.{ℕ, zero, suc, ◌+◌, ◌-◌, ◌*◌, ◌<◌, ◌≤◌}
 use native.Mathlib.Numerals.{add-one}
 use native.Mathlib.Omega.{arith}
 use lib.ListN.{length, get_or, take, drop}
 use lib.Seq.{drop-cons, drop-length}
 use borrow.Author.Tests.{eq-eqb, ne_eqb, eqb-true, eqb-false}
-use Rattle.std.specs.Prelude.{◌==◌}
+use Rattle.std.specs.Prelude.{Option, None, Some, ◌==◌}
 use Rattle.laws.specs.Lists.{keep, every}
 use Rattle.laws.specs.Words.{part}
 use Rattle.laws.proofs.Tests.{by_test}
@@ -76,9 +75,9 @@ module _ (k m : ℕ) where
 
 -- ---- a pin
 none_word : (x : Option Bool) → (mark_word x == 0) ≡ is_none x
-none_word none = refl
-none_word (some true) = refl
-none_word (some false) = refl
+none_word None = refl
+none_word (Some true) = refl
+none_word (Some false) = refl
 
 module _ (kinds starts list pins nets w : List ℕ) (k p m : ℕ) (b : Bool) (em : m ≡ get_or pins (5 * p + 1) 0) (eb : b ≡ must_be_logic (kind_at k) m) where
   abbrev n : Netlist

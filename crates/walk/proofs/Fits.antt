@@ -7,14 +7,13 @@ use native.Mathlib.Numerals.{add-one}
 use native.Mathlib.Omega.{arith}
 use borrow.Author.Tests.{eq-eqb, ne_eqb, le-leb, lt-leb, leb-true, leb-false}
 use lib.ListN.{get_or}
-use Rattle.std.specs.Prelude.{◌==◌}
+use Rattle.std.specs.Prelude.{Some, ◌==◌}
 use Rattle.laws.specs.Tests.{◌<?◌, ◌≤?◌}
 use Rattle.laws.specs.Lists.{every, upto}
 use Rattle.laws.proofs.Tests.{by_test, and-false}
 use Rattle.laws.proofs.Ranges.{upto_fails, upto-more}
 use Rattle.rules.specs.declared.Driver.{Driver}
 use Rattle.rules.specs.declared.Driver.TheVariants.{Port, Dff, Ram}
-use Rattle.rules.specs.declared.Decoded.TheVariants.{Is}
 use Rattle.rules.specs.Tables.{decode, decode_at, unused, flag_in}
 use Rattle.rules.specs.Refusals.{operand_fits, driver_fits, drivers_fit}
 
@@ -54,7 +53,7 @@ pub constant_both : (u a b : ℕ) → a ≡ 0 → b ≡ 0 → (u == 0) ≡ drive
 constant_both u a b e f = sym (rw (eq-eqb a 0 e, eq-eqb b 0 f))
 
 -- ---- the cases by their tags
-pub unused_fits : (u b : ℕ) (d : Driver) → driver_fits u (Is d) ≡ (0 <? u) → driver_fits u (unused b d) ≡ ((b ≤? 0) && (0 <? u))
+pub unused_fits : (u b : ℕ) (d : Driver) → driver_fits u (Some d) ≡ (0 <? u) → driver_fits u (unused b d) ≡ ((b ≤? 0) && (0 <? u))
 unused_fits u b d e = by_test (b ≤? 0)
     (λ t. rw (t, eq-eqb b 0 (omega (arith, leb-true b 0 t))) e)
     (λ f. rw (f, ne_eqb b 0 (λ z. omega (arith, z, leb-false b 0 f))))

@@ -6,7 +6,7 @@ use Prim.Native.Nat.{ℕ, zero, suc, ◌+◌, ◌-◌, ◌*◌, ◌<◌, ◌≤�
 use native.Mathlib.Omega.{arith}
 use borrow.Author.Tests.{eqb-true, eqb-false, ne_eqb, leb-true, ltb-true, ltb-false}
 use lib.ListN.{get_or}
-use Rattle.std.specs.Prelude.{if◌then◌else◌, ◌==◌}
+use Rattle.std.specs.Prelude.{Option, Some, if◌then◌else◌, ◌==◌}
 use Rattle.laws.specs.Tests.{◌<?◌, ◌≤?◌}
 use Rattle.laws.specs.Lists.{count, member}
 use Rattle.laws.proofs.Tests.{by_test, and_l, and_r, if_true, if_false}
@@ -14,8 +14,6 @@ use Rattle.laws.proofs.Bags.{at_head}
 use Rattle.laws.proofs.Ranges.{map-upto, map_past, of_upto}
 use Rattle.rules.specs.declared.Driver.{Driver}
 use Rattle.rules.specs.declared.Driver.TheVariants.{Port, Dff, Ram, Constant}
-use Rattle.rules.specs.declared.Decoded.{Decoded}
-use Rattle.rules.specs.declared.Decoded.TheVariants.{Is}
 use Rattle.rules.specs.Graph.{Graph, gate, operands, driver_at}
 use Rattle.rules.specs.Tables.{decode, decode_at, unused, flag_in, driver_or, drivers_in}
 use Rattle.rules.specs.Refusals.{operand_fits, driver_fits, drivers_fit}
@@ -23,7 +21,7 @@ use Rattle.rules.specs.Stages.{back}
 use Rattle.walk.specs.State.{goes, tag_of, first_of, second_of, Operands}
 
 -- ---- three words that are no gate's lead nowhere
-abbrev leads : Decoded → List ℕ
+abbrev leads : Option Driver → List ℕ
 leads d = operands (driver_or d)
 
 unused_leads : (b : ℕ) (d : Driver) → operands d ≡ [] → leads (unused b d) ≡ []
@@ -59,7 +57,7 @@ no_gate (suc (suc (suc (suc (suc zero))))) a b n = unused_leads b (Ram a) refl
 no_gate (suc (suc (suc (suc (suc (suc t)))))) a b n = past_leads t a b
 
 -- those of a gate say it
-pub says-gate : (ws : List ℕ) (p : ℕ) → tag_of ws p ≡ 1 → decode_at ws p ≡ Is (gate (get_or ws (3 * p + 1) 0) (get_or ws (3 * p + 2) 0))
+pub says-gate : (ws : List ℕ) (p : ℕ) → tag_of ws p ≡ 1 → decode_at ws p ≡ Some (gate (get_or ws (3 * p + 1) 0) (get_or ws (3 * p + 2) 0))
 unfolding decode_at
 says-gate ws p e = ap (λ (t : ℕ). decode t (get_or ws (3 * p + 1) 0) (get_or ws (3 * p + 2) 0)) e
 
