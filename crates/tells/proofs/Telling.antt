@@ -1,5 +1,5 @@
 -- Numbers and counts as they are told, and the tables that stay or are 0.
-use mathlib.Core.Path.{◌≡◌, refl, sym, ap, subst, ◌∙◌}
+use mathlib.Core.Path.{◌≡◌, refl, sym, ap, ◌∙◌}
 use mathlib.Core.List.{List, [], ◌∷◌}
 use Prim.Native.Nat.{ℕ, zero, suc, ◌<◌, ◌≤◌}
 use native.Mathlib.Omega.{arith}
@@ -81,27 +81,34 @@ module _ (t : Told) (n n₁ : List ℕ) (k : ℕ) (ez : n₁ ≡ zeros (length n
     pub tell_roomy : 3 ≤ length n₁
     tell_roomy = (told-both (length n₁) t.number (sym ek ∙ z)).1
 
-    pub tell_done : (n₂ : List ℕ) → n₂ ≡ filled (t.first ∷ t.second ∷ t.third ∷ []) (length n₁) → Tells t n n₂ 0
-    tell_done n₂ e = record { answer = sym z ∙ number_is; counts = e ∙ ap (filled (told_counts t)) long }
+    pub tell_done : (n₂ : List ℕ) → n₂ ≡ filled (t.first ∷ t.second ∷ t.third ∷ []) (length n₁) → Tells t n n₂ k
+    tell_done n₂ e = record {
+      answer = number_is;
+      counts = e ∙ ap (filled (told_counts t)) long ∙ sym (ap (λ (x : ℕ). held x (told_counts t) (length n)) z);
+    }
 
 -- ---- with results
+pub kept-same : (k : ℕ) (a : List ℕ) → k ≡ 0 → a ≡ kept k a
+kept-same zero a z = refl
+kept-same (suc k) a z = absurd (omega arith)
+
 module _ (t : Told) (a n n' : List ℕ) (k : ℕ) (q : Tells t n n' k) where
-  pub one_done : k ≡ 0 → TellsOne t a n a n' 0
-  one_done z = record { tells = subst (Tells t n n') z q; first = refl }
+  pub one_done : k ≡ 0 → TellsOne t a n a n' k
+  one_done z = record { tells = q; first = kept-same k a z }
 
   pub one-refused : (a' : List ℕ) → (k ≡ 0 → ⊥) → a' ≡ zeros (length a) → TellsOne t a n a' n' k
   one-refused a' f e = record { tells = q; first = e ∙ kept-zeros k a f }
 
 module _ (t : Told) (a b n a' n' : List ℕ) (k : ℕ) (q : TellsOne t a n a' n' k) where
-  pub two_done : k ≡ 0 → TellsTwo t a b n a' b n' 0
-  two_done z = record { tells = subst (TellsOne t a n a' n') z q; second = refl }
+  pub two_done : k ≡ 0 → TellsTwo t a b n a' b n' k
+  two_done z = record { tells = q; second = kept-same k b z }
 
   pub two_refused : (b' : List ℕ) → (k ≡ 0 → ⊥) → b' ≡ zeros (length b) → TellsTwo t a b n a' b' n' k
   two_refused b' f e = record { tells = q; second = e ∙ kept-zeros k b f }
 
 module _ (t : Told) (a b c n a' b' n' : List ℕ) (k : ℕ) (q : TellsTwo t a b n a' b' n' k) where
-  pub three_done : k ≡ 0 → TellsThree t a b c n a' b' c n' 0
-  three_done z = record { tells = subst (TellsTwo t a b n a' b' n') z q; third = refl }
+  pub three_done : k ≡ 0 → TellsThree t a b c n a' b' c n' k
+  three_done z = record { tells = q; third = kept-same k c z }
 
   pub three-refused : (c' : List ℕ) → (k ≡ 0 → ⊥) → c' ≡ zeros (length c) → TellsThree t a b c n a' b' c' n' k
   three-refused c' f e = record { tells = q; third = e ∙ kept-zeros k c f }
