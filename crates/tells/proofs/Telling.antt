@@ -4,15 +4,15 @@ use mathlib.Core.List.{List, [], ◌∷◌}
 use Prim.Native.Nat.{ℕ, zero, suc, ◌<◌, ◌≤◌}
 use native.Mathlib.Omega.{arith}
 use borrow.Author.Tests.{eq-eqb, ne_eqb, le-leb, lt-leb, leb-true, leb-false, eqb-true, eqb-false}
-use lib.ListN.{length, set}
+use lib.ListN.{length}
 use Rattle.std.specs.Prelude.{◌==◌}
 use Rattle.laws.specs.Tests.{◌≤?◌}
 use Rattle.laws.specs.Words.{zeros, filled}
 use Rattle.laws.proofs.Tests.{by_test}
-use Rattle.laws.proofs.Words.{zeros-length, filled_none, filled_more}
+use Rattle.laws.proofs.Words.{zeros-length}
 use Rattle.rules.specs.Tables.{held}
 use Rattle.tells.specs.declared.Told.{Told}
-use Rattle.tells.specs.Telling.{told_number, told_counts, Tells, kept, TellsOne, TellsTwo, TellsThree}
+use Rattle.tells.specs.Telling.{told_number, told_counts, Tells, kept}
 
 -- ---- the number
 pub told_1 : (room k : ℕ) → k ≡ 1 → 1 ≡ told_number room k
@@ -48,18 +48,7 @@ pub kept-held : (r k : ℕ) (ws a : List ℕ) (room : ℕ) → (r ≡ 0 → k �
 kept-held zero k ws a room f e l = e ∙ ap (λ (x : ℕ). held x ws room) (f refl)
 kept-held (suc r) k ws a room f e l = ap zeros l
 
-kept-zeros : (k : ℕ) (a : List ℕ) → (k ≡ 0 → ⊥) → zeros (length a) ≡ kept k a
-kept-zeros zero a n = absurd (n refl)
-kept-zeros (suc k) a n = refl
-
 -- ---- the counts
-pub three-put : (ws : List ℕ) (a b c : ℕ) → ws ≡ zeros (length ws) → 3 ≤ length ws → set (set (set ws 0 a) 1 b) 2 c ≡ filled (a ∷ b ∷ c ∷ []) (length ws)
-three-put ws a b c z l =
-    ap (λ (w : List ℕ). set (set (set w 0 a) 1 b) 2 c) (z ∙ sym (filled_none (length ws)))
-    ∙ ap (λ (w : List ℕ). set (set w 1 b) 2 c) (filled_more [] (length ws) a (omega arith))
-    ∙ ap (λ (w : List ℕ). set w 2 c) (filled_more (a ∷ []) (length ws) b (omega arith))
-    ∙ filled_more (a ∷ b ∷ []) (length ws) c (omega arith)
-
 module _ (t : Told) (n n₁ : List ℕ) (k : ℕ) (ez : n₁ ≡ zeros (length n)) (ek : k ≡ told_number (length n₁) t.number) where
   long : length n₁ ≡ length n
   long = ap length ez ∙ zeros-length (length n)
@@ -86,29 +75,3 @@ module _ (t : Told) (n n₁ : List ℕ) (k : ℕ) (ez : n₁ ≡ zeros (length n
       answer = number_is;
       counts = e ∙ ap (filled (told_counts t)) long ∙ sym (ap (λ (x : ℕ). held x (told_counts t) (length n)) z);
     }
-
--- ---- with results
-pub kept-same : (k : ℕ) (a : List ℕ) → k ≡ 0 → a ≡ kept k a
-kept-same zero a z = refl
-kept-same (suc k) a z = absurd (omega arith)
-
-module _ (t : Told) (a n n' : List ℕ) (k : ℕ) (q : Tells t n n' k) where
-  pub one_done : k ≡ 0 → TellsOne t a n a n' k
-  one_done z = record { tells = q; first = kept-same k a z }
-
-  pub one-refused : (a' : List ℕ) → (k ≡ 0 → ⊥) → a' ≡ zeros (length a) → TellsOne t a n a' n' k
-  one-refused a' f e = record { tells = q; first = e ∙ kept-zeros k a f }
-
-module _ (t : Told) (a b n a' n' : List ℕ) (k : ℕ) (q : TellsOne t a n a' n' k) where
-  pub two_done : k ≡ 0 → TellsTwo t a b n a' b n' k
-  two_done z = record { tells = q; second = kept-same k b z }
-
-  pub two_refused : (b' : List ℕ) → (k ≡ 0 → ⊥) → b' ≡ zeros (length b) → TellsTwo t a b n a' b' n' k
-  two_refused b' f e = record { tells = q; second = e ∙ kept-zeros k b f }
-
-module _ (t : Told) (a b c n a' b' n' : List ℕ) (k : ℕ) (q : TellsTwo t a b n a' b' n' k) where
-  pub three_done : k ≡ 0 → TellsThree t a b c n a' b' c n' k
-  three_done z = record { tells = q; third = kept-same k c z }
-
-  pub three-refused : (c' : List ℕ) → (k ≡ 0 → ⊥) → c' ≡ zeros (length c) → TellsThree t a b c n a' b' c' n' k
-  three-refused c' f e = record { tells = q; third = e ∙ kept-zeros k c f }
