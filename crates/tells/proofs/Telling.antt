@@ -4,12 +4,12 @@ use mathlib.Core.List.{List, [], ◌∷◌}
 use Prim.Native.Nat.{ℕ, zero, suc, ◌<◌, ◌≤◌}
 use native.Mathlib.Omega.{arith}
 use borrow.Author.Tests.{eq-eqb, ne_eqb, le-leb, lt-leb, leb-true, leb-false, eqb-true, eqb-false}
-use lib.ListN.{length}
+use lib.ListN.{length, set}
 use Rattle.std.specs.Prelude.{◌==◌}
 use Rattle.laws.specs.Tests.{◌≤?◌}
 use Rattle.laws.specs.Words.{zeros, filled}
 use Rattle.laws.proofs.Tests.{by_test}
-use Rattle.laws.proofs.Words.{zeros-length}
+use Rattle.laws.proofs.Words.{zeros-length, filled_none, filled_more}
 use Rattle.rules.specs.Tables.{held}
 use Rattle.tells.specs.declared.Told.{Told}
 use Rattle.tells.specs.Telling.{told_number, told_counts, Tells, kept}
@@ -49,6 +49,13 @@ kept-held zero k ws a room f e l = e ∙ ap (λ (x : ℕ). held x ws room) (f re
 kept-held (suc r) k ws a room f e l = ap zeros l
 
 -- ---- the counts
+pub three-put : (ws : List ℕ) (a b c : ℕ) → ws ≡ zeros (length ws) → 3 ≤ length ws → set (set (set ws 0 a) 1 b) 2 c ≡ filled (a ∷ b ∷ c ∷ []) (length ws)
+three-put ws a b c z l =
+    ap (λ (w : List ℕ). set (set (set w 0 a) 1 b) 2 c) (z ∙ sym (filled_none (length ws)))
+    ∙ ap (λ (w : List ℕ). set (set w 1 b) 2 c) (filled_more [] (length ws) a (omega arith))
+    ∙ ap (λ (w : List ℕ). set w 2 c) (filled_more (a ∷ []) (length ws) b (omega arith))
+    ∙ filled_more (a ∷ b ∷ []) (length ws) c (omega arith)
+
 module _ (t : Told) (n n₁ : List ℕ) (k : ℕ) (ez : n₁ ≡ zeros (length n)) (ek : k ≡ told_number (length n₁) t.number) where
   long : length n₁ ≡ length n
   long = ap length ez ∙ zeros-length (length n)
