@@ -30,9 +30,7 @@ pub fn pin_made(t: Tally, d: Driver) -> Tally
     Tally {
         pins: t.pins + 1,
         gates: t.gates + more,
-        outputs: t.outputs,
-        dffs: t.dffs,
-        rams: t.rams,
+        ..t
     }
 }
 
@@ -42,11 +40,8 @@ pub fn output_made(t: Tally) -> Tally
     ensures { result ≡ output_counted t }
 {
     Tally {
-        pins: t.pins,
-        gates: t.gates,
         outputs: t.outputs + 1,
-        dffs: t.dffs,
-        rams: t.rams,
+        ..t
     }
 }
 
@@ -56,11 +51,8 @@ pub fn dff_made(t: Tally) -> Tally
     ensures { result ≡ dff_counted t }
 {
     Tally {
-        pins: t.pins,
-        gates: t.gates,
-        outputs: t.outputs,
         dffs: t.dffs + 1,
-        rams: t.rams,
+        ..t
     }
 }
 
@@ -70,10 +62,7 @@ pub fn ram_made(t: Tally) -> Tally
     ensures { result ≡ ram_counted t }
 {
     Tally {
-        pins: t.pins,
-        gates: t.gates,
-        outputs: t.outputs,
-        dffs: t.dffs,
         rams: t.rams + 1,
+        ..t
     }
 }
