@@ -3,7 +3,7 @@
 
 use parts::from_split;
 use prints::print_words;
-use rules::{GraphCounts, Parted};
+use rules::{EndTables, GraphCounts, GraphTables, Refusal, StageSize};
 use std::io;
 use subsets::{from_full_aig, to_endpoint_subset};
 use words::all_zero;
@@ -18,7 +18,7 @@ const REMOVAL: [u32; 15] = [0, 0, 0, 2, 0, 0, 2, 1, 0, 1, 2, 4, 1, 4, 6];
 
 fn two_outputs(pins: u32) -> GraphCounts {
     GraphCounts {
-        pins: pins,
+        pins,
         outputs: 2,
         dffs: 0,
         rams: 0,
@@ -29,13 +29,13 @@ fn two_outputs(pins: u32) -> GraphCounts {
 fn print_parted(
     rt: &impl Print,
     label: &[u8],
-    p: Parted,
+    p: Result<StageSize, Refusal>,
     handed: &[u32],
     taken: &[u32],
 ) -> io::Result<()> {
     match p {
-        Parted::Stage(h, t) => print_words(rt, label, &[h, t])?,
-        Parted::Refused(k) => print_words(rt, label, &[9, k])?,
+        Ok(s) => print_words(rt, label, &[s.handed, s.taken])?,
+        Err(e) => print_words(rt, label, &[9, e.number()])?,
     }
     print_words(rt, b"  handed", handed)?;
     print_words(rt, b"  taken", taken)
@@ -62,19 +62,16 @@ fn split_of(
     let mut handed = [7u32; 4];
     let mut taken = [7u32; 2];
     let mut work = [7u32; 400];
-    let p = from_split(
-        c,
+    let g = GraphTables {
+        ends: EndTables {
+            counts: c,
+            outputs,
+            dffs: &[],
+            rams: &[],
+        },
         drivers,
-        outputs,
-        &[],
-        &[],
-        chosen,
-        before,
-        level,
-        &mut handed,
-        &mut taken,
-        &mut work,
-    );
+    };
+    let p = from_split(g, chosen, before, level, &mut handed, &mut taken, &mut work);
     print_parted(rt, label, p, &handed, &taken)?;
     print_left(rt, &work)
 }

@@ -2,7 +2,7 @@
 #![tactic(auto)]
 
 use prints::print_words;
-use rules::{GraphCounts, Staged};
+use rules::{EndTables, GraphCounts, GraphTables, Refusal, StagesSize};
 use staging::build_staged_aigs;
 use std::io;
 use words::all_zero;
@@ -16,10 +16,10 @@ const M9: [u32; 24] = [
 const REMOVAL: [u32; 15] = [0, 0, 0, 2, 0, 0, 2, 1, 0, 1, 2, 4, 1, 4, 6];
 
 // How many stages, pins handed on and endpoints there are, or 9 and the number of a refusal.
-fn print_staged(rt: &impl Print, label: &[u8], s: Staged) -> io::Result<()> {
+fn print_staged(rt: &impl Print, label: &[u8], s: Result<StagesSize, Refusal>) -> io::Result<()> {
     match s {
-        Staged::Stages(rows, handed, taken) => print_words(rt, label, &[rows, handed, taken]),
-        Staged::Refused(k) => print_words(rt, label, &[9, k]),
+        Ok(n) => print_words(rt, label, &[n.stages, n.handed, n.taken]),
+        Err(e) => print_words(rt, label, &[9, e.number()]),
     }
 }
 
@@ -43,19 +43,16 @@ fn stages(
     let mut handed = [7u32; 5];
     let mut taken = [7u32; 2];
     let mut work = [7u32; 400];
-    let s = build_staged_aigs(
-        c,
+    let g = GraphTables {
+        ends: EndTables {
+            counts: c,
+            outputs,
+            dffs: &[],
+            rams: &[],
+        },
         drivers,
-        outputs,
-        &[],
-        &[],
-        splits,
-        3,
-        &mut rows,
-        &mut handed,
-        &mut taken,
-        &mut work,
-    );
+    };
+    let s = build_staged_aigs(g, splits, 3, &mut rows, &mut handed, &mut taken, &mut work);
     print_staged(rt, label, s)?;
     print_words(rt, b"  rows", &rows)?;
     print_words(rt, b"  handed", &handed)?;
@@ -65,8 +62,8 @@ fn stages(
 
 fn counts(pins: u32, outputs: u32) -> GraphCounts {
     GraphCounts {
-        pins: pins,
-        outputs: outputs,
+        pins,
+        outputs,
         dffs: 0,
         rams: 0,
     }
