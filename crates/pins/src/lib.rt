@@ -22,15 +22,9 @@ fn pin_ranged(pins: &[u32], p: usize, cells: usize, nets: usize) -> bool
     ensures { result ≡ ranged pins.now cells nets p }
 {
     let cell = pin_word(pins, 0, p) as usize;
-    if cells <= cell {
-        return false;
-    }
     let net = pin_word(pins, 4, p) as usize;
-    if nets <= net {
-        return false;
-    }
     let direction = pin_word(pins, 3, p);
-    direction <= 1
+    cell < cells && net < nets && direction <= 1
 }
 
 // The same of every pin.
@@ -38,15 +32,7 @@ pub fn pins_ranged(pins: &[u32], size: usize, cells: usize, nets: usize) -> bool
     requires { 5 * size ≤ length pins.now }
     ensures { result ≡ every (ranged pins.now cells nets) (upto size) }
 {
-    let mut p = 0;
-    while p < size {
-        let fits = pin_ranged(pins, p, cells, nets);
-        if !fits {
-            return false;
-        }
-        p += 1;
-    }
-    true
+    (0..size).all(|p| pin_ranged(pins, p, cells, nets))
 }
 
 // A pin that the kind of its cell may have, by the constant table; no kind has a name of 17 or more.
@@ -71,13 +57,5 @@ pub fn pins_allowed(kinds: &[u32], pins: &[u32], size: usize) -> bool
     requires { Ranged kinds.now pins.now size }
     ensures { result ≡ every (slotted kinds.now pins.now) (upto size) }
 {
-    let mut p = 0;
-    while p < size {
-        let fits = pin_allowed(kinds, pins, p);
-        if !fits {
-            return false;
-        }
-        p += 1;
-    }
-    true
+    (0..size).all(|p| pin_allowed(kinds, pins, p))
 }
