@@ -7,7 +7,6 @@ ghost use Rattle.pins.specs.Words.{pin_at};
 ghost use Rattle.nets.specs.Driven.{driven, driving, net_driven, Netted};
 
 use pins::pin_word;
-use words::word;
 
 // A net is constant, or its word names an out pin on it.
 fn net_driven(pins: &[u32], size: usize, driver: u32, net: usize) -> bool
@@ -36,7 +35,7 @@ fn pin_drives(pins: &[u32], nets: &[u32], p: usize) -> bool
     ensures { result ≡ driving pins.now nets.now p }
 {
     let net = pin_word(pins, 4, p) as usize;
-    pin_word(pins, 3, p) != 1 || word(nets, net) as usize == 2 + p
+    pin_word(pins, 3, p) != 1 || nets[net] as usize == 2 + p
 }
 
 // The same of every pin.

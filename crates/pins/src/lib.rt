@@ -6,7 +6,6 @@ ghost use Rattle.laws.specs.Lists.{every, upto};
 ghost use Rattle.pins.specs.Words.{pin_at, ranged, Held, Ranged, slotted};
 
 use kinds::{kind_word, slot_allows};
-use words::word;
 
 // Word i of a pin: its cell, name, bit, direction and net.
 pub fn pin_word(pins: &[u32], i: usize, p: usize) -> u32
@@ -45,7 +44,7 @@ fn pin_allowed(kinds: &[u32], pins: &[u32], p: usize) -> bool
         return false;
     }
     let cell = pin_word(pins, 0, p) as usize;
-    let kind = word(kinds, cell) as usize;
+    let kind = kinds[cell] as usize;
     let allows = kind_word(kind, name);
     let bit = pin_word(pins, 2, p);
     let direction = pin_word(pins, 3, p);
