@@ -18,7 +18,10 @@ use Rattle.std.specs.declared.slice.Iter.{Iter}
 use Rattle.std.specs.Prelude.{Option}
 use Rattle.std.specs.Slice.Iter.{iter_rest}
 use Rattle.laws.specs.Lists.{every, upto}
-use Rattle.laws.proofs.Tests.{by_test}
+use lib.ListN.{length, get_or}
+use Rattle.laws.proofs.Tests.{by_test, bits_same}
+use Rattle.laws.proofs.Ranges.{every_upto, of_upto}
+use Rattle.laws.proofs.Indices.{every_at, every_entry}
 
 -- the numbers from a on, the last of them at the end
 range-last : (a n : ℕ) → range_with_len a (suc n) ≡ range_with_len a n ++ ((a + n) ∷ [])
@@ -57,3 +60,9 @@ pub any_each : {F : Type 0} {g : Mut F (Bor ℕ × Unit {0}) Bool} {s : Iter ℕ
     × MatchOption o (r ≡ false) (λ x. (r ≡ true) × ((h : F) × Called g j (x, tt) true h))
     → iter_rest s ≡ l → ((x : Bor ℕ) (b : Bool) (q : F) → Called g c (x, tt) b q → (q ≡ c) × (b ≡ not (f x.now))) → r ≡ not (every f l)
 any_each f l u c r ran e calls = any_from_yields_List (λ x. not (f x)) u c r ran (YieldsList-from_slice l e) calls ∙ any_not f l
+
+-- each entry of a list passes where the entry at each of its places does
+pub by_index : (f : ℕ → Bool) (l : List ℕ) → every f l ≡ every (λ k. f (get_or l k 0)) (upto (length l))
+by_index f l = bits_same (every f l) (every (λ k. f (get_or l k 0)) (upto (length l)))
+    (λ t. every_upto (λ k. f (get_or l k 0)) (length l) (λ k h. every_at f 0 l k t h))
+    (λ t. every_entry f 0 l (λ k h. of_upto (λ k. f (get_or l k 0)) (length l) k t h))
