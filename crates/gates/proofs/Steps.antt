@@ -9,7 +9,7 @@ use native.Mathlib.Numerals.{add-one}
 use lib.ListN.{length, get_or, set, length-set}
 use lib.Seq.{get_or-set_same, get_or-set_other}
 use borrow.Author.Tests.{lt-ltb, le-ltb, eq-eqb, ne_eqb, eqb-true, eqb-false, ltb-true, ltb-false}
-use Rattle.std.specs.Prelude.{Some, None, ◌==◌}
+use Rattle.std.specs.Prelude.{Option, Some, None, ◌==◌}
 use Rattle.laws.specs.Tests.{◌<?◌}
 use Rattle.laws.specs.Words.{ZeroFrom}
 use Rattle.laws.proofs.Tests.{by_test, true≢false, and_l, and_r}
@@ -21,9 +21,8 @@ use Rattle.rules.specs.Build.{is_gate}
 use Rattle.rules.specs.Tables.{drivers_in}
 use Rattle.drivers.specs.Written.{written, Holds}
 use Rattle.drivers.proofs.Rows.{drivers_long_lem, holds_drivers, holds_more, one-longer, written-length, driver_old, driver_new}
-use Rattle.gates.specs.declared.AndMade.{AndMade}
-use Rattle.gates.specs.declared.AndMade.TheVariants.{Got, NoRoom}
-use Rattle.gates.specs.Step.{bucket_of, in_bucket, top_below, rows_of, chained, Ready, Leaves, grown, full, Paired, Stepped}
+use Rattle.gates.specs.declared.Step.{Step}
+use Rattle.gates.specs.Step.{bucket_of, in_bucket, top_below, rows_of, chained, Ready, got, Leaves, grown, full, Paired, Stepped}
 use Rattle.gates.proofs.Pairs.{first_le}
 use Rattle.gates.proofs.Chains.{top_same, first_past, gate_pair, gate_bucket, driver_past}
 use Rattle.gates.proofs.Find.{bucket_less}
@@ -50,7 +49,7 @@ ready_start at w ws h z b m = record {
   bounded = b;
   wide = m;
   first = ap (λ (ds : List Driver). driver_at ds 0) alone;
-  once = λ u v lo hi x y. None u lo hi x;
+  once = λ u v lo hi x y. none u lo hi x;
   heads = λ k l. zero_from_at w at (at + rows_of ws + k) z (omega arith) ∙ sym (ap (λ (ds : List Driver). top_below ds (rows_of ws) 1 k) alone);
   links = λ g k l x. zero_from_at w at (at + g) z (omega arith) ∙ sym (ap (λ (j : ℕ). top_below (drivers_in ws 0) (rows_of ws) j k) (zero_is g l));
 }
@@ -65,8 +64,8 @@ ready_start at w ws h z b m = record {
     constant zero = refl
     constant (suc u) = refl
 
-    None : {P : Type 0} (u lo hi : ℕ) → is_pair lo hi (driver_at (drivers_in ws 0) u) ≡ true → P
-    None u lo hi x = true≢false false (sym (ap (is_pair lo hi) (ap (λ (ds : List Driver). driver_at ds u) alone ∙ constant u)) ∙ x) refl
+    none : {P : Type 0} (u lo hi : ℕ) → is_pair lo hi (driver_at (drivers_in ws 0) u) ≡ true → P
+    none u lo hi x = true≢false false (sym (ap (is_pair lo hi) (ap (λ (ds : List Driver). driver_at ds u) alone ∙ constant u)) ∙ x) refl
 
 -- ---- one driver more in the table
 module _ (at : ℕ) (w ws : List ℕ) (pins : ℕ) (d : Driver) (l : 3 * pins + 5 < length ws) (r : Ready at w ws pins) where
@@ -271,11 +270,11 @@ module _ (at : ℕ) (w ws : List ℕ) (pins lo hi : ℕ) (l : 3 * pins + 5 < len
 
 -- a step that makes nothing
 unchanged : (at : ℕ) (m : Made) (w ws : List ℕ) (pins l : ℕ) → Ready at w ws pins → ◌≡◌ {A = Made} m (record { drivers = drivers_in ws pins; lit = l })
-    → Leaves at m w ws w ws (Got (literal l) pins)
-unchanged at m w ws pins l d e = subst (λ (x : Made). Leaves at x w ws w ws (Got (literal l) pins)) (sym e)
+    → Leaves at m w ws w ws (got (literal l) pins)
+unchanged at m w ws pins l d e = subst (λ (x : Made). Leaves at x w ws w ws (got (literal l) pins)) (sym e)
     (grown (record {
       room = omega (arith, d.long, long);
-      answer = ap (λ (k : ℕ). Got (literal l) k) (sym count);
+      answer = ap (λ (k : ℕ). got (literal l) k) (sym count);
       drivers = ap (drivers_in ws) count;
       ready = subst (Ready at w ws) (sym count) d;
       same_length = refl;
@@ -296,7 +295,7 @@ module _ (at : ℕ) (w ws : List ℕ) (pins lo hi r : ℕ) (ready : Ready at w w
   long = drivers_long_lem ws pins
 
   -- the pair is known
-  pub pair_old : r ≤ pins → Paired at w ws pins lo hi w ws (Got (literal (2 * r)) pins)
+  pub pair_old : r ≤ pins → Paired at w ws pins lo hi w ws (got (literal (2 * r)) pins)
   pair_old l = unchanged at (old_or_new (is_pair lo hi) (gate lo hi) (drivers_in ws pins)) w ws pins (2 * r) ready
       (rw (← found, lt-ltb r (length (drivers_in ws pins)) (omega (arith, l, long))))
 
@@ -309,8 +308,8 @@ module _ (at : ℕ) (w ws : List ℕ) (pins lo hi r : ℕ) (ready : Ready at w w
         (record { drivers = drivers_in ws pins ++ (gate lo hi ∷ []); lit = 2 * r })
     made_is = rw (← found, le-ltb r (length (drivers_in ws pins)) (omega (arith, next)))
 
-    pub pair_full : length ws < 3 * r + 3 → Paired at w ws pins lo hi w ws NoRoom
-    pair_full s = subst (λ (x : Made). Leaves at x w ws w ws NoRoom) (sym made_is)
+    pub pair_full : length ws < 3 * r + 3 → Paired at w ws pins lo hi w ws None
+    pair_full s = subst (λ (x : Made). Leaves at x w ws w ws None) (sym made_is)
         (full (record { no_room = omega (arith, s, next, one-longer (drivers_in ws pins) (gate lo hi)); answer = refl; table = refl; words = refl }))
 
     module _ (ws' w' : List ℕ) (s : 3 * r + 3 ≤ length ws) (e : ws' ≡ written ws r (gate lo hi))
@@ -339,11 +338,11 @@ module _ (at : ℕ) (w ws : List ℕ) (pins lo hi r : ℕ) (ready : Ready at w w
       count : length (drivers_in ws pins ++ (gate lo hi ∷ [])) - 1 ≡ pins + 1
       count = omega (arith, one, long)
 
-      pub pair_new : Paired at w ws pins lo hi w' ws' (Got (literal (2 * r)) r)
-      pair_new = subst (λ (x : Made). Leaves at x w ws w' ws' (Got (literal (2 * r)) r)) (sym made_is)
+      pub pair_new : Paired at w ws pins lo hi w' ws' (got (literal (2 * r)) r)
+      pair_new = subst (λ (x : Made). Leaves at x w ws w' ws' (got (literal (2 * r)) r)) (sym made_is)
           (grown (record {
             room = omega (arith, s, next, one);
-            answer = ap (λ (k : ℕ). Got (literal (2 * r)) k) (r_is ∙ sym count);
+            answer = ap (λ (k : ℕ). got (literal (2 * r)) k) (r_is ∙ sym count);
             drivers = ap (drivers_in ws') count ∙ ap (λ (x : List ℕ). drivers_in x (pins + 1)) table_is ∙ pin_drivers at w ws pins (gate lo hi) room ready;
             ready = subst (Ready at w' ws') (sym count)
                 (subst (λ (x : List ℕ). Ready at x ws' (pins + 1)) (sym words_are)
@@ -358,7 +357,7 @@ module _ (at : ℕ) (w ws : List ℕ) (pins lo hi r : ℕ) (ready : Ready at w w
 
 -- ---- the six ways of the AND, in order
 module _ (at : ℕ) (w ws : List ℕ) (pins a b : ℕ) (ready : Ready at w ws pins) where
-  is_short : (l : ℕ) → short_cut a b ≡ Some l → Stepped at w ws pins a b w ws (Got (literal l) pins)
+  is_short : (l : ℕ) → short_cut a b ≡ Some l → Stepped at w ws pins a b w ws (got (literal l) pins)
   unfolding and_of
   is_short l e = unchanged at (and_of (drivers_in ws pins) a b) w ws pins l ready (ap (and_by (drivers_in ws pins) a b) e)
 
@@ -366,22 +365,22 @@ module _ (at : ℕ) (w ws : List ℕ) (pins a b : ℕ) (ready : Ready at w ws pi
   unfolding and_of
   is_pair_lem e = ap (and_by (drivers_in ws pins) a b) e
 
-  pub first_zero : a ≡ 0 → Stepped at w ws pins a b w ws (Got (literal a) pins)
+  pub first_zero : a ≡ 0 → Stepped at w ws pins a b w ws (got (literal a) pins)
   first_zero e = is_short a (rw (eq-eqb a 0 e) (ap Some (sym e)))
 
   module _ (a≢0 : a ≡ 0 → ⊥) where
-    pub second_zero : b ≡ 0 → Stepped at w ws pins a b w ws (Got (literal b) pins)
+    pub second_zero : b ≡ 0 → Stepped at w ws pins a b w ws (got (literal b) pins)
     second_zero e = is_short b (rw (ne_eqb a 0 a≢0, eq-eqb b 0 e) (ap Some (sym e)))
 
     module _ (b≢0 : b ≡ 0 → ⊥) where
-      pub first_one : a ≡ 1 → Stepped at w ws pins a b w ws (Got (literal b) pins)
+      pub first_one : a ≡ 1 → Stepped at w ws pins a b w ws (got (literal b) pins)
       first_one e = is_short b (rw (ne_eqb a 0 a≢0, ne_eqb b 0 b≢0, eq-eqb a 1 e))
 
       module _ (a≢1 : a ≡ 1 → ⊥) where
-        pub second_one : b ≡ 1 → Stepped at w ws pins a b w ws (Got (literal a) pins)
+        pub second_one : b ≡ 1 → Stepped at w ws pins a b w ws (got (literal a) pins)
         second_one e = is_short a (rw (ne_eqb a 0 a≢0, ne_eqb b 0 b≢0, ne_eqb a 1 a≢1, eq-eqb b 1 e))
 
-        module _ (b≢1 : b ≡ 1 → ⊥) (w' ws' : List ℕ) (r : AndMade) where
+        module _ (b≢1 : b ≡ 1 → ⊥) (w' ws' : List ℕ) (r : Option Step) where
           long_way : short_cut a b ≡ None
           long_way = rw (ne_eqb a 0 a≢0, ne_eqb b 0 b≢0, ne_eqb a 1 a≢1, ne_eqb b 1 b≢1)
 

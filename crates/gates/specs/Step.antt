@@ -1,14 +1,14 @@
 -- The AND step over a driver table: what it needs, and what it leaves.
-use Rattle.std.specs.Prelude.{◌≡◌, Bool, true, false, ◌&&◌, List, ℕ, zero, suc, ◌+◌, ◌-◌, ◌*◌, ◌/◌, ◌%◌, ◌<◌, ◌≤◌, length, get_or, set, if◌then◌else◌, ◌==◌}
+use Rattle.std.specs.Prelude.{Option, None, Some, ◌≡◌, Bool, true, false, ◌&&◌, List, ℕ, zero, suc, ◌+◌, ◌-◌, ◌*◌, ◌/◌, ◌%◌, ◌<◌, ◌≤◌, length, get_or, set, if◌then◌else◌, ◌==◌}
 use Rattle.laws.specs.Words.{SameBelow}
+use Rattle.rules.specs.declared.Literal.{Literal}
 use Rattle.rules.specs.declared.Driver.{Driver}
 use Rattle.rules.specs.declared.Driver.TheVariants.{And, Port, Flag, Dff, Ram, Constant}
 use Rattle.rules.specs.Graph.{literal, gate, driver_at, is_pair, Made, old_or_new, and_of}
 use Rattle.rules.specs.Tables.{drivers_in}
 use Rattle.rules.specs.Bounds.{max_graph_pins}
 use Rattle.drivers.specs.Written.{Holds}
-use Rattle.gates.specs.declared.AndMade.{AndMade}
-use Rattle.gates.specs.declared.AndMade.TheVariants.{Got, NoRoom}
+use Rattle.gates.specs.declared.Step.{Step}
 
 -- the words of a pin are those of the gate (lo, hi)
 abbrev pub is_pair_at : List ℕ → ℕ → ℕ → ℕ → Bool
@@ -51,28 +51,32 @@ pub record Ready (at : ℕ) (w ws : List ℕ) (pins : ℕ) : Type 0 where
   pub heads : (h : ℕ) → h < 2 * rows_of ws + 1 → get_or w (at + rows_of ws + h) 0 ≡ top_below (drivers_in ws pins) (rows_of ws) (pins + 1) h
   pub links : (g h : ℕ) → g ≤ pins → in_bucket (rows_of ws) h (driver_at (drivers_in ws pins) g) ≡ true → get_or w (at + g) 0 ≡ top_below (drivers_in ws pins) (rows_of ws) g h
 
+-- a step's answer where there is room
+abbrev pub got : Literal → ℕ → Option Step
+got l pins = Some (record { lit = l; pins = pins })
+
 -- what a step leaves, by what the rules make of the drivers: all of it, or where there is no room for it nothing
-pub record Grown (at : ℕ) (m : Made) (w ws w' ws' : List ℕ) (r : AndMade) : Type 0 where
+pub record Grown (at : ℕ) (m : Made) (w ws w' ws' : List ℕ) (r : Option Step) : Type 0 where
   pub room : 3 * length m.drivers ≤ length ws
-  pub answer : r ≡ Got (literal m.lit) (length m.drivers - 1)
+  pub answer : r ≡ got (literal m.lit) (length m.drivers - 1)
   pub drivers : drivers_in ws' (length m.drivers - 1) ≡ m.drivers
   pub ready : Ready at w' ws' (length m.drivers - 1)
   pub same_length : length ws' ≡ length ws
   pub below : SameBelow at w w'
 
-pub record Full (m : Made) (w ws w' ws' : List ℕ) (r : AndMade) : Type 0 where
+pub record Full (m : Made) (w ws w' ws' : List ℕ) (r : Option Step) : Type 0 where
   pub no_room : length ws < 3 * length m.drivers
-  pub answer : r ≡ NoRoom
+  pub answer : r ≡ None
   pub table : ws' ≡ ws
   pub words : w' ≡ w
 
-pub data Leaves (at : ℕ) (m : Made) (w ws w' ws' : List ℕ) (r : AndMade) : Type 0 where
+pub data Leaves (at : ℕ) (m : Made) (w ws w' ws' : List ℕ) (r : Option Step) : Type 0 where
   grown : Grown at m w ws w' ws' r → Leaves at m w ws w' ws' r
   full : Full m w ws w' ws' r → Leaves at m w ws w' ws' r
 
 -- of an ordered pair, and of any two literals
-abbrev pub Paired : ℕ → List ℕ → List ℕ → ℕ → ℕ → ℕ → List ℕ → List ℕ → AndMade → Type 0
+abbrev pub Paired : ℕ → List ℕ → List ℕ → ℕ → ℕ → ℕ → List ℕ → List ℕ → Option Step → Type 0
 Paired at w ws pins lo hi w' ws' r = Leaves at (old_or_new (is_pair lo hi) (gate lo hi) (drivers_in ws pins)) w ws w' ws' r
 
-abbrev pub Stepped : ℕ → List ℕ → List ℕ → ℕ → ℕ → ℕ → List ℕ → List ℕ → AndMade → Type 0
+abbrev pub Stepped : ℕ → List ℕ → List ℕ → ℕ → ℕ → ℕ → List ℕ → List ℕ → Option Step → Type 0
 Stepped at w ws pins a b w' ws' r = Leaves at (and_of (drivers_in ws pins) a b) w ws w' ws' r

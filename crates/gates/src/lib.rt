@@ -11,11 +11,11 @@ ghost use Rattle.gates.specs.Step.{is_pair_at, bucket_of, chained, Ready, Paired
 use drivers::put_driver;
 use rules::{Driver, Literal};
 
-// What a step answers: a literal and how many pins there are now, or that the table is full.
-#[derive(Drop)]
-pub enum AndMade {
-    Got(Literal, u32),
-    NoRoom,
+// What a step gives: a literal, and how many pins there are after it.
+#[derive(Clone, Copy)]
+pub struct Step {
+    pub lit: Literal,
+    pub pins: u32,
 }
 
 // Whether pin p is the gate of (lo, hi).
@@ -24,13 +24,7 @@ fn is_pair(drivers: &[u32], p: usize, lo: u32, hi: u32) -> bool
     ensures { result ≡ is_pair_at drivers.now p lo hi }
 {
     let at = 3 * p;
-    if drivers[at] != 1 {
-        return false;
-    }
-    if drivers[at + 1] != lo {
-        return false;
-    }
-    drivers[at + 2] == hi
+    drivers[at] == 1 && drivers[at + 1] == lo && drivers[at + 2] == hi
 }
 
 // The bucket of a pair. Buckets are an odd number, and both factors and half their sum are primes larger than it, so that
@@ -80,7 +74,7 @@ fn chain_gate(work: &mut [u32], at: usize, rows: usize, p: u32, lo: u32, hi: u32
     work[head] = p;
 }
 
-// The gate of an ordered pair.
+// The gate of an ordered pair, or none where it is new and the table is full.
 fn pair_gate(
     drivers: &mut [u32],
     work: &mut [u32],
@@ -88,18 +82,18 @@ fn pair_gate(
     pins: u32,
     lo: u32,
     hi: u32,
-) -> AndMade
+) -> Option<Step>
     requires { Ready at work.old drivers.old pins }
     ensures { Paired at work.old drivers.old pins lo hi work.new drivers.new result }
 {
     let p = find_pair(drivers, work, at, pins, lo, hi);
     if p <= pins {
-        let old = 2 * p;
-        return AndMade::Got(Literal { word: old }, pins);
+        let lit = Literal { word: 2 * p };
+        return Some(Step { lit, pins });
     }
     let row = p as usize;
     if drivers.len() < 3 * row + 3 {
-        return AndMade::NoRoom;
+        return None;
     }
     put_driver(
         drivers,
@@ -108,11 +102,12 @@ fn pair_gate(
     );
     let rows = drivers.len() / 3;
     chain_gate(work, at, rows, p, lo, hi);
-    let new = 2 * p;
-    AndMade::Got(Literal { word: new }, p)
+    let lit = Literal { word: 2 * p };
+    Some(Step { lit, pins: p })
 }
 
-// The AND of two literals: a 0 gives 0, else a 1 gives the other literal, else the gate of the ordered pair.
+// The AND of two literals: a 0 gives 0, else a 1 gives the other literal, else the gate of the ordered pair; none where
+// it is new and the table is full.
 pub fn add_and_gate(
     drivers: &mut [u32],
     work: &mut [u32],
@@ -120,23 +115,23 @@ pub fn add_and_gate(
     pins: u32,
     a: Literal,
     b: Literal,
-) -> AndMade
+) -> Option<Step>
     requires { Ready at work.old drivers.old pins }
     ensures { Stepped at work.old drivers.old pins a.word b.word work.new drivers.new result }
 {
     let x = a.word;
     let y = b.word;
     if x == 0 {
-        return AndMade::Got(a, pins);
+        return Some(Step { lit: a, pins });
     }
     if y == 0 {
-        return AndMade::Got(b, pins);
+        return Some(Step { lit: b, pins });
     }
     if x == 1 {
-        return AndMade::Got(b, pins);
+        return Some(Step { lit: b, pins });
     }
     if y == 1 {
-        return AndMade::Got(a, pins);
+        return Some(Step { lit: a, pins });
     }
     if y < x {
         pair_gate(drivers, work, at, pins, y, x)
