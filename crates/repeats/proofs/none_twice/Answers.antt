@@ -12,7 +12,7 @@ pin_code-code-requires c = search entry_long
 pub pin_word-cell-requires : goal.pin_word-cell-requires
 pin_word-cell-requires c = search cell_long
 
-pub overflow_add-base : goal.overflow_add-stamp
+pub overflow_add-base : goal.overflow_add-base
 overflow_add-base c = let small : c.pin_code-code.result < 544 = search code_small in omega arith
 
 pub stamp-requires : goal.stamp-requires

@@ -1,6 +1,4 @@
 use Rattle.repeats.proofs.Stamps.{Stamping}
-use lib.ListN.{length}
-use Prim.Native.Nat.{◌-◌}
 use Rattle.repeats.proofs.none_twice.Given as goal
 
 abbrev pub invariant-loop-entry : goal.invariant-loop-entry
