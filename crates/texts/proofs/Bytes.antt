@@ -1,5 +1,6 @@
 -- Laws of text as bytes: what stands before a byte, lines and fields from a place on, digits, and words stored in a table.
 use mathlib.Core.Path.{◌≡◌, refl, sym, ◌∙◌, ap, subst}
+use mathlib.Core.Bool.{true, false}
 use mathlib.Core.List.{List, [], ◌∷◌, ◌++◌}
 use Prim.Native.Nat.{ℕ, suc, ◌+◌, ◌-◌, ◌*◌, ◌<◌, ◌≤◌}
 use native.Mathlib.Omega.{arith}
@@ -132,10 +133,10 @@ reckon_ends s i v g l =
     sym (ap (λ (k : List ℕ). digits v k) (ap (λ (k : ℕ). drop k s) q ∙ drop-length s)) ∙ g.same
 
 -- ---- a number
-pub number_empty : (s : List ℕ) → length s ≡ 0 → None ≡ number_of s
+pub number_empty : (s : List ℕ) → true ≡ (length s == 0) → None ≡ number_of s
 unfolding number_of
 number_empty [] e = refl
-number_empty (x ∷ xs) e = absurd (omega (arith, e))
+number_empty (x ∷ xs) e = absurd (omega (arith, eqb-true (length (x ∷ xs)) 0 (sym e)))
 
 pub number-single : (s : List ℕ) (r : Option ℕ) → length s ≡ 1 → r ≡ digits 0 s → r ≡ number_of s
 unfolding number_of
@@ -143,15 +144,15 @@ number-single [] r e q = absurd (omega (arith, e))
 number-single (x ∷ []) r e q = q
 number-single (x ∷ y ∷ xs) r e q = absurd (omega (arith, e))
 
-pub number-leading : (s : List ℕ) → (length s ≡ 0 → ⊥) → (length s ≡ 1 → ⊥) → get_or s 0 0 ≡ 48 → None ≡ number_of s
+pub number-leading : (s : List ℕ) → false ≡ (length s == 0) → (length s ≡ 1 → ⊥) → get_or s 0 0 ≡ 48 → None ≡ number_of s
 unfolding number_of
-number-leading [] z o e = absurd (z refl)
+number-leading [] z o e = cc
 number-leading (x ∷ []) z o e = absurd (o refl)
 number-leading (x ∷ y ∷ xs) z o e = rw (eq-eqb x 48 e)
 
-pub number_many : (s : List ℕ) (r : Option ℕ) → (length s ≡ 0 → ⊥) → (length s ≡ 1 → ⊥) → (get_or s 0 0 ≡ 48 → ⊥) → r ≡ digits 0 s → r ≡ number_of s
+pub number_many : (s : List ℕ) (r : Option ℕ) → false ≡ (length s == 0) → (length s ≡ 1 → ⊥) → (get_or s 0 0 ≡ 48 → ⊥) → r ≡ digits 0 s → r ≡ number_of s
 unfolding number_of
-number_many [] r z o n e = absurd (z refl)
+number_many [] r z o n e = cc
 number_many (x ∷ []) r z o n e = absurd (o refl)
 number_many (x ∷ y ∷ xs) r z o n e = rw (ne_eqb x 48 n) e
 

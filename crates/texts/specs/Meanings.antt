@@ -6,7 +6,7 @@ use Rattle.texts.specs.declared.Sort.{Sort}
 use Rattle.texts.specs.declared.Reading.{Reading}
 use Rattle.texts.specs.declared.BrokenText.{BrokenText}
 use Rattle.texts.specs.declared.Taken.{Taken}
-use Rattle.texts.specs.Text.{before, fields, lines, number_of, stored, tab}
+use Rattle.texts.specs.Text.{before, fields, number_of, stored, tab}
 use Rattle.texts.specs.Reading.{is_number, numbers_of, reading_in, placed_read, line_read, line_numbers, line_starts, reading_of}
 
 -- the place r is where the first byte `stop` stands from at on, or the end

@@ -1,7 +1,7 @@
 -- Which texts are netlists, and what is read of a text. A text is its lines; a line is a record: a word and numbers behind it, with one tab
 -- before each. Records of cells come first, then pins, nets and split levels. What is read is a function of the bytes, so a text that is
 -- accepted has one reading.
-use Rattle.std.specs.Prelude.{Option, Some, None, Result, Ok, Err, Bool, true, false, ◌&&◌, List, [], ◌∷◌, ◌++◌, ℕ, ◌+◌, length, get_or, if◌then◌else◌, ◌==◌}
+use Rattle.std.specs.Prelude.{Option, Some, None, Result, Ok, Err, Bool, true, false, ◌&&◌, List, [], ◌∷◌, ◌++◌, ℕ, ◌+◌, length, get_or, if◌then◌else◌, ◌==◌, codes}
 use Rattle.laws.specs.Tests.{◌≤?◌}
 use Rattle.laws.specs.Lists.{every, over}
 use Rattle.std.specs.Str.{bytes_eq}
@@ -16,16 +16,16 @@ use Rattle.texts.specs.Text.{lines, fields, number_of}
 -- ---- one line
 -- the words that begin a record
 abbrev pub cell_word : List ℕ
-cell_word = 99 ∷ 101 ∷ 108 ∷ 108 ∷ []
+cell_word = codes "cell"
 
 abbrev pub pin_word : List ℕ
-pin_word = 112 ∷ 105 ∷ 110 ∷ []
+pin_word = codes "pin"
 
 abbrev pub net_word : List ℕ
-net_word = 110 ∷ 101 ∷ 116 ∷ []
+net_word = codes "net"
 
 abbrev pub split_word : List ℕ
-split_word = 115 ∷ 112 ∷ 108 ∷ 105 ∷ 116 ∷ []
+split_word = codes "split"
 
 -- the sort of the record that a word begins
 abbrev pub sort_of : List ℕ → Option Sort

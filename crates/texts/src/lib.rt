@@ -78,13 +78,13 @@ fn value_of(s: &[u8]) -> Option<u32>
 {
     let mut v = 0u32;
     for &b in s {
-        if b < 48 {
+        if b < b'0' {
             return None;
         }
-        if 57 < b {
+        if b'9' < b {
             return None;
         }
-        let w = 10 * u64::from(v) + u64::from(b - 48);
+        let w = 10 * u64::from(v) + u64::from(b - b'0');
         if 4294967295 < w {
             return None;
         }
@@ -97,13 +97,13 @@ fn value_of(s: &[u8]) -> Option<u32>
 pub fn number(s: &[u8]) -> Option<u32>
     ensures { result ≡ number_of s.now }
 {
-    if s.len() == 0 {
+    if s.is_empty() {
         return None;
     }
     if s.len() == 1 {
         return value_of(s);
     }
-    if s[0] == 48 {
+    if s[0] == b'0' {
         return None;
     }
     value_of(s)
@@ -147,7 +147,7 @@ fn field_at(line: &[u8], at: usize) -> Field
     requires { at ≤ length line.now }
     ensures { FieldRead line.now at result.number result.next }
 {
-    let e = until(line, at, 9);
+    let e = until(line, at, b'\t');
     let number = number(&line[at..e]);
     Field {
         number,
@@ -274,7 +274,7 @@ fn line(
     requires { Fits r (length s.now + 1) }
     ensures { Line s.now r numbers.old starts.old result numbers.new starts.new }
 {
-    let e = until(s, 0, 9);
+    let e = until(s, 0, b'\t');
     let Some(sort) = sort_of(&s[..e]) else {
         return Err(broken(r, 0, Fault::NotRecord));
     };
@@ -306,7 +306,7 @@ fn read_lines(text: &[u8], numbers: &mut [u32], starts: &mut [u32]) -> Result<Re
     let mut r = begin();
     let mut at = 0;
     while at < text.len() {
-        let e = until(text, at, 10);
+        let e = until(text, at, b'\n');
         r = line(&text[at..e], r, numbers, starts)?;
         at = e + 1;
     }
