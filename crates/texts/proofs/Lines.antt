@@ -15,11 +15,12 @@ use Rattle.texts.specs.declared.Sort.{Sort}
 use Rattle.texts.specs.declared.Sort.TheVariants.{Cell, Pin, Net, Split}
 use Rattle.texts.specs.contracts.SortPartialOrd.TheImpl.{partial_cmp-value}
 use Rattle.texts.specs.declared.Reading.{Reading}
-use Rattle.texts.specs.declared.Fault.TheVariants.{NotRecord, OutOfOrder, NotNumber, WrongNumbers, TooLong}
+use Rattle.texts.specs.declared.Fault.TheVariants.{NotRecord, OutOfOrder, NotNumber, WrongNumbers}
+use Rattle.texts.specs.declared.BrokenText.TheVariants.{TooLong}
 use Rattle.texts.specs.declared.BrokenText.{BrokenText}
 use Rattle.texts.specs.declared.Taken.{Taken}
 use Rattle.texts.specs.Text.{before, lines, fields, stored, tab, newline}
-use Rattle.texts.specs.Reading.{Held, is_number, numbers_of, sort_of, rank, sort_in, first_of, rest_of, shaped, broken, counted, placed, placed_read, word_read, line_read, reading_in, line_numbers, line_starts, more, begun, nothing, too_long, reading_of}
+use Rattle.texts.specs.Reading.{Held, is_number, numbers_of, sort_of, rank, sort_in, first_of, rest_of, shaped, broken, counted, placed, placed_read, word_read, line_read, reading_in, line_numbers, line_starts, more, begun, nothing, reading_of}
 use Rattle.texts.specs.Meanings.{Until, count_of, Taking, fields_from, Fits, Placed, Line, Text}
 use Rattle.texts.proofs.Bytes.{before-take, until_part, fields_first, lines_go_on, stored-append, stored-length}
 
@@ -62,7 +63,7 @@ module _ (s : List ℕ) (at : ℕ) (sort : Sort) (r : Reading) (numbers starts n
       → Placed r sort (fields_from s at) numbers starts (Err b) numbers' starts' (length s)
   placed_not_number n g b e = made (Err n) g (Err b)
       (ap Err (e ∙ ap (λ (k : ℕ). broken r k NotNumber) g.counts) ∙ read_not_number r sort (fields_from s at) (sym g.numbers))
-      (ap (λ (x : BrokenText). x.reading.numbers) e)
+      (ap (λ (x : BrokenText). (reading_in (Err x)).numbers) e)
 
   module _ (t : Taken) (g : Taking s at numbers r.numbers numbers' (Ok t)) (b : Bool) (se : b ≡ shaped sort t.count t.first) where
     same : shaped sort (length (numbers_of (fields_from s at))) (get_or (numbers_of (fields_from s at)) 0 0) ≡ b
@@ -72,7 +73,7 @@ module _ (s : List ℕ) (at : ℕ) (sort : Sort) (r : Reading) (numbers starts n
         → Placed r sort (fields_from s at) numbers starts (Err q) numbers' starts' (length s)
     placed_misshaped f q e = made (Ok t) g (Err q)
         (ap Err (e ∙ ap (λ (k : ℕ). broken r k WrongNumbers) g.counts) ∙ read_misshaped r sort (fields_from s at) (sym g.numbers) (same ∙ f))
-        (ap (λ (x : BrokenText). x.reading.numbers) e)
+        (ap (λ (x : BrokenText). (reading_in (Err x)).numbers) e)
 
     pub placed_good : b ≡ true → (q : Reading) → q ≡ counted r t.count sort
         → Placed r sort (fields_from s at) numbers starts (Ok q) numbers' starts' (length s)
@@ -129,7 +130,7 @@ module _ (s : List ℕ) (e : ℕ) (u : Until s 0 9 e) where
   read_as found r se = sym (ap (λ (o : Option Sort). word_read r o (rest_of (fields s))) (sort_is found se))
 
   module _ (r : Reading) (numbers starts : List ℕ) where
-    not_placed : placed r.latest (sort_in s) ≡ false → (b : BrokenText) → Err b ≡ line_read r s → b.reading.numbers ≡ r.numbers + 0 → Line s r numbers starts (Err b) numbers starts
+    not_placed : placed r.latest (sort_in s) ≡ false → (b : BrokenText) → Err b ≡ line_read r s → (reading_in (Err b)).numbers ≡ r.numbers + 0 → Line s r numbers starts (Err b) numbers starts
     not_placed f b w n = record {
       reading = w;
       numbers_stored = nothing_stored numbers r.numbers ∙ ap (λ (vs : List ℕ). stored numbers r.numbers vs) (sym (if_false (placed r.latest (sort_in s)) (numbers_of (rest_of (fields s))) [] f));
@@ -138,7 +139,7 @@ module _ (s : List ℕ) (e : ℕ) (u : Until s 0 9 e) where
     }
 
     pub line_no_word : None ≡ sort_of (take e s) → (b : BrokenText) → b ≡ broken r 0 NotRecord → Line s r numbers starts (Err b) numbers starts
-    line_no_word se b w = not_placed (ap (λ (o : Option Sort). placed r.latest o) (sort_is None se)) b (ap Err w ∙ read_as None r se) (ap (λ (x : BrokenText). x.reading.numbers) w)
+    line_no_word se b w = not_placed (ap (λ (o : Option Sort). placed r.latest o) (sort_is None se)) b (ap Err w ∙ read_as None r se) (ap (λ (x : BrokenText). (reading_in (Err x)).numbers) w)
 
     module _ (sort : Sort) (se : Some sort ≡ sort_of (take e s)) where
       pub line_early : rank sort < rank r.latest → (b : BrokenText) → b ≡ broken r 0 OutOfOrder → Line s r numbers starts (Err b) numbers starts
@@ -146,7 +147,7 @@ module _ (s : List ℕ) (e : ℕ) (u : Until s 0 9 e) where
           let f : (rank r.latest ≤? rank sort) ≡ false = lt-leb (rank r.latest) (rank sort) l in
           not_placed (ap (λ (o : Option Sort). placed r.latest o) (sort_is (Some sort) se) ∙ f) b
           (ap Err w ∙ sym (if_false (rank r.latest ≤? rank sort) (placed_read r sort (rest_of (fields s))) (Err (broken r 0 OutOfOrder)) f) ∙ read_as (Some sort) r se)
-          (ap (λ (x : BrokenText). x.reading.numbers) w)
+          (ap (λ (x : BrokenText). (reading_in (Err x)).numbers) w)
 
       pub line_placed : (q : Result Reading BrokenText) (numbers' starts' : List ℕ) → rank r.latest ≤ rank sort
           → Placed r sort (fields_from s (e + 1)) numbers starts q numbers' starts' (length s) → Line s r numbers starts q numbers' starts'
@@ -283,7 +284,7 @@ drop_all (suc n) (x ∷ xs) h = drop_all n xs (omega (arith, h))
 
 text_read : (text : List ℕ) → length text ≤ 262144 → reading_of text ≡ over more (nothing (Ok begun)) (lines text)
 unfolding reading_of
-text_read text l = if_true (length text ≤? 262144) (over more (nothing (Ok begun)) (lines text)) (nothing (Err too_long)) (le-leb (length text) 262144 l)
+text_read text l = if_true (length text ≤? 262144) (over more (nothing (Ok begun)) (lines text)) (nothing (Err TooLong)) (le-leb (length text) 262144 l)
 
 text_of : (text numbers₀ starts₀ : List ℕ) (r : Result Reading BrokenText) (ns ss numbers starts : List ℕ) → length text ≤ 262144
     → held_by r ns ss ≡ over more (nothing (Ok begun)) (lines text) → numbers ≡ stored numbers₀ 0 ns → starts ≡ stored starts₀ 0 ss → Text text numbers₀ starts₀ r numbers starts
@@ -374,12 +375,12 @@ module _ (text numbers₀ starts₀ numbers starts : List ℕ) (r : Reading) (at
         k : Kept r r' (before newline (drop at text))
         k = line_kept r (before newline (drop at text)) r' (sym z ∙ line'.reading)
 
-pub text_long : (text numbers starts : List ℕ) (r : Reading) → 262144 < length text → r ≡ begun → Text text numbers starts (Err (record { reading = r; fault = TooLong })) numbers starts
+pub text_long : (text numbers starts : List ℕ) → 262144 < length text → Text text numbers starts (Err TooLong) numbers starts
 unfolding reading_of
-text_long text numbers starts r l e =
-    let q : reading_of text ≡ nothing (Err too_long) = if_false (length text ≤? 262144) (over more (nothing (Ok begun)) (lines text)) (nothing (Err too_long)) (lt-leb (length text) 262144 l) in
+text_long text numbers starts l =
+    let q : reading_of text ≡ nothing (Err TooLong) = if_false (length text ≤? 262144) (over more (nothing (Ok begun)) (lines text)) (nothing (Err TooLong)) (lt-leb (length text) 262144 l) in
     record {
-      reading = ap (λ (x : Reading). Err (record { reading = x; fault = TooLong })) e ∙ sym (ap (λ (h : Held). h.reading) q);
+      reading = sym (ap (λ (h : Held). h.reading) q);
       numbers_stored = nothing_stored numbers 0 ∙ sym (ap (λ (h : Held). stored numbers 0 h.numbers) q);
       starts_stored = nothing_stored starts 0 ∙ sym (ap (λ (h : Held). stored starts 0 h.starts) q);
     }

@@ -9,8 +9,9 @@ use Rattle.texts.specs.declared.Sort.{Sort}
 use Rattle.texts.specs.declared.Sort.TheVariants.{Cell, Pin, Net, Split}
 use Rattle.texts.specs.declared.Reading.{Reading}
 use Rattle.texts.specs.declared.Fault.{Fault}
-use Rattle.texts.specs.declared.Fault.TheVariants.{NotRecord, OutOfOrder, NotNumber, WrongNumbers, TooLong}
+use Rattle.texts.specs.declared.Fault.TheVariants.{NotRecord, OutOfOrder, NotNumber, WrongNumbers}
 use Rattle.texts.specs.declared.BrokenText.{BrokenText}
+use Rattle.texts.specs.declared.BrokenText.TheVariants.{TooLong, Line}
 use Rattle.texts.specs.Text.{lines, fields, number_of}
 
 -- ---- one line
@@ -100,7 +101,8 @@ nothing r = record { reading = r; numbers = []; starts = [] }
 -- what was read, of a broken text too
 abbrev pub reading_in : Result Reading BrokenText → Reading
 reading_in (Ok r) = r
-reading_in (Err b) = b.reading
+reading_in (Err (Line r fault)) = r
+reading_in (Err TooLong) = begun
 
 -- the numbers of a line that is placed, and where they begin
 abbrev pub line_numbers : Sort → List ℕ → List ℕ
@@ -111,18 +113,15 @@ line_starts latest n line = if placed latest (sort_in line) then n ∷ [] else [
 
 -- a line more, of which n numbers were kept: broken, or a record of a sort
 abbrev pub broken : Reading → ℕ → Fault → BrokenText
-broken r n fault = record {
-  reading = record {
-    lines = r.lines + 1;
-    numbers = r.numbers + n;
-    latest = r.latest;
-    cells = r.cells;
-    pins = r.pins;
-    nets = r.nets;
-    splits = r.splits;
-  };
-  fault = fault;
-}
+broken r n fault = Line (record {
+  lines = r.lines + 1;
+  numbers = r.numbers + n;
+  latest = r.latest;
+  cells = r.cells;
+  pins = r.pins;
+  nets = r.nets;
+  splits = r.splits;
+}) fault
 
 abbrev pub counted : Reading → ℕ → Sort → Reading
 counted r n Cell = record { lines = r.lines + 1; numbers = r.numbers + n; latest = Cell; cells = r.cells + 1; pins = r.pins; nets = r.nets; splits = r.splits }
@@ -161,10 +160,6 @@ more h line = more_of h.reading h line
 abbrev pub longest : ℕ
 longest = 262144
 
--- a text that is longer: no line is read
-abbrev pub too_long : BrokenText
-too_long = record { reading = begun; fault = TooLong }
-
--- the reading of a text. It is accepted where it is `Ok`; else, unless the text is too long, `lines` is the number of the first broken line, from 1
+-- the reading of a text. Of one that is longer no line is read. Where a line is broken, `lines` is the number of the first that is, from 1
 unfoldable pub reading_of : List ℕ → Held
-reading_of text = if length text ≤? longest then over more (nothing (Ok begun)) (lines text) else nothing (Err too_long)
+reading_of text = if length text ≤? longest then over more (nothing (Ok begun)) (lines text) else nothing (Err TooLong)

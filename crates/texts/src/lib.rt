@@ -28,21 +28,20 @@ pub struct Reading {
     pub splits: usize,
 }
 
-// What is wrong with a text: with its last line that was read, or that it is too long.
+// What is wrong with a line.
 #[derive(Clone, Copy)]
 pub enum Fault {
     NotRecord,
     OutOfOrder,
     NotNumber,
     WrongNumbers,
-    TooLong,
 }
 
-// A text that is not accepted: what was read of it, and what is wrong.
+// Why a text is not accepted: it is too long to be read; or a line is broken, with what was read up to it.
 #[derive(Clone, Copy)]
-pub struct BrokenText {
-    pub reading: Reading,
-    pub fault: Fault,
+pub enum BrokenText {
+    TooLong,
+    Line(Reading, Fault),
 }
 
 // The number that a field is, if it is one, and where the next field begins.
@@ -206,7 +205,7 @@ fn broken(r: Reading, n: usize, fault: Fault) -> BrokenText
         numbers: r.numbers + n,
         ..r
     };
-    BrokenText { reading, fault }
+    BrokenText::Line(reading, fault)
 }
 
 fn counted(r: Reading, n: usize, sort: Sort) -> Reading
@@ -318,11 +317,7 @@ pub fn read(text: &[u8], numbers: &mut [u32], starts: &mut [u32]) -> Result<Read
     ensures { Text text.now numbers.old starts.old result numbers.new starts.new }
 {
     if 262144 < text.len() {
-        let reading = begin();
-        return Err(BrokenText {
-            reading,
-            fault: Fault::TooLong,
-        });
+        return Err(BrokenText::TooLong);
     }
     read_lines(text, numbers, starts)
 }
