@@ -1,24 +1,17 @@
 -- Rows, drivers and stages, a line at a time.
 use mathlib.Core.Path.{◌≡◌, refl, sym, ◌∙◌, ap, subst}
 use mathlib.Core.List.{List, [], ◌∷◌, ◌++◌}
-use Prim.Native.Nat.{ℕ, zero, suc, ◌+◌, ◌-◌, ◌*◌, ◌<◌, ◌≤◌}
+use Prim.Native.Nat.{ℕ, zero, suc, ◌+◌, ◌-◌, ◌*◌, ◌<◌, ◌≤◌, min}
 use native.Mathlib.Omega.{arith}
 use borrow.Author.Tests.{eq-eqb, ne_eqb, leb-true, leb-false}
 use lib.ListN.{length, get_or, take, drop}
 use lib.Seq.{drop-drop}
-use Rattle.std.specs.Prelude.{if◌then◌else◌}
 use Rattle.laws.specs.Tests.{◌≤?◌}
 use Rattle.laws.specs.Words.{part}
-use Rattle.laws.proofs.Tests.{by_test, if_true, if_false}
+use Rattle.laws.proofs.Tests.{by_test}
 use Rattle.answers.specs.Printing.{Printed, field_bytes, line_bytes, rows_bytes, numbered_bytes}
 use Rattle.answers.specs.Answer.{const_word, and_word, port_word, flag_word, dff_word, ram_word, driver_word, rising_end, falling_end, flag_bytes, source_bytes, driver_bytes, driver_at, drivers_bytes, stage_word, hand_word, ends_word, open_end, ends_bytes, stage_at, stages_bytes}
 use Rattle.answers.proofs.Placing.{Printing, printing_begins, printing_more, printing_ends, printed_then, drop-none}
-
-pub word_past : (ns : List ℕ) (i : ℕ) → length ns ≤ i → 0 ≡ get_or ns i 0
-word_past [] zero l = refl
-word_past [] (suc i) l = refl
-word_past (x ∷ xs) zero l = absurd (omega (arith, l))
-word_past (x ∷ xs) (suc i) l = word_past xs i (omega (arith, l))
 
 -- a count that falls by one
 falls : (n i : ℕ) → i < n → n - i ≡ suc (n - (i + 1))
@@ -34,43 +27,39 @@ unfolding rows_bytes
 rows_over label width zero ns l = refl
 rows_over label width (suc n) ns l = absurd (omega (arith, l))
 
-pub record Rows (out : List ℕ) (at : ℕ) (label ns : List ℕ) (width n : ℕ) (out₁ : List ℕ) (a from left : ℕ) : Type 0 where
-  pub printing : Printing out at (rows_bytes label width n ns) out₁ a (rows_bytes label width left (drop from ns))
+pub record Rows (out : List ℕ) (at : ℕ) (label ns : List ℕ) (width n : ℕ) (out₁ : List ℕ) (a from i : ℕ) : Type 0 where
+  pub printing : Printing out at (rows_bytes label width n ns) out₁ a (rows_bytes label width (n - i) (drop from ns))
   pub inside : from ≤ length ns
 
-pub rows_begin : (out : List ℕ) (at : ℕ) (label ns : List ℕ) (width n : ℕ) → Rows out at label ns width n out at 0 n
-rows_begin out at label ns width n = record { printing = printing_begins out at (rows_bytes label width n ns); inside = omega arith }
+pub rows_begin : (out : List ℕ) (at : ℕ) (label ns : List ℕ) (width n : ℕ) → Rows out at label ns width n out at 0 0
+rows_begin out at label ns width n =
+    let e : n - 0 ≡ n = omega arith in
+    record {
+      printing = subst (λ (k : ℕ). Printing out at (rows_bytes label width n ns) out at (rows_bytes label width k ns)) (sym e) (printing_begins out at (rows_bytes label width n ns));
+      inside = omega arith;
+    }
 
-module _ (out : List ℕ) (at : ℕ) (label ns : List ℕ) (width n : ℕ) (out₁ : List ℕ) (a from left : ℕ) (g : Rows out at label ns width n out₁ a from left) where
-  pub rows_go_on : (out₂ : List ℕ) (b from' : ℕ) → 0 < left → Printed out₁ a (line_bytes label (part ns from width)) out₂ b
-      → from' ≡ (if from + width ≤? length ns then from + width else length ns) → Rows out at label ns width n out₂ b from' (left - 1)
+module _ (out : List ℕ) (at : ℕ) (label ns : List ℕ) (width n : ℕ) (out₁ : List ℕ) (a from i : ℕ) (g : Rows out at label ns width n out₁ a from i) where
+  pub rows_go_on : (out₂ : List ℕ) (b from' : ℕ) → i < n → Printed out₁ a (line_bytes label (part ns from width)) out₂ b
+      → from' ≡ min (from + width) (length ns) → Rows out at label ns width n out₂ b from' (i + 1)
   unfolding part
   rows_go_on out₂ b from' l p e = record {
-    printing = printing_more out at (rows_bytes label width n ns) out₁ a (rows_bytes label width left (drop from ns)) g.printing
-        (line_bytes label (take width (drop from ns))) (rows_bytes label width (left - 1) (drop from' ns)) out₂ b next p;
-    inside = within;
+    printing = printing_more out at (rows_bytes label width n ns) out₁ a (rows_bytes label width (n - i) (drop from ns)) g.printing
+        (line_bytes label (take width (drop from ns))) (rows_bytes label width (n - (i + 1)) (drop from' ns)) out₂ b next p;
+    inside = omega (arith, e);
   }
     where
-      count : left ≡ suc (left - 1)
-      count = omega (arith, l)
-
       moved : drop width (drop from ns) ≡ drop from' ns
       moved = drop-drop width from ns ∙ by_test (from + width ≤? length ns)
-          (λ t. ap (λ (k : ℕ). drop k ns) (sym (e ∙ if_true (from + width ≤? length ns) (from + width) (length ns) t)))
-          (λ f. drop-none (from + width) ns (omega (arith, leb-false (from + width) (length ns) f))
-          ∙ sym (drop-none from' ns (omega (arith, e ∙ if_false (from + width ≤? length ns) (from + width) (length ns) f))))
+          (λ t. let q : from + width ≡ from' = omega (arith, e, leb-true (from + width) (length ns) t) in ap (λ (k : ℕ). drop k ns) q)
+          (λ f. drop-none (from + width) ns (omega (arith, leb-false (from + width) (length ns) f)) ∙ sym (drop-none from' ns (omega (arith, e, leb-false (from + width) (length ns) f))))
 
-      next : rows_bytes label width left (drop from ns) ≡ line_bytes label (take width (drop from ns)) ++ rows_bytes label width (left - 1) (drop from' ns)
-      next = ap (λ (k : ℕ). rows_bytes label width k (drop from ns)) count ∙ rows_first label width (left - 1) (drop from ns)
-          ∙ ap (λ (r : List ℕ). line_bytes label (take width (drop from ns)) ++ rows_bytes label width (left - 1) r) moved
+      next : rows_bytes label width (n - i) (drop from ns) ≡ line_bytes label (take width (drop from ns)) ++ rows_bytes label width (n - (i + 1)) (drop from' ns)
+      next = ap (λ (k : ℕ). rows_bytes label width k (drop from ns)) (falls n i l) ∙ rows_first label width (n - (i + 1)) (drop from ns)
+          ∙ ap (λ (r : List ℕ). line_bytes label (take width (drop from ns)) ++ rows_bytes label width (n - (i + 1)) r) moved
 
-      within : from' ≤ length ns
-      within = by_test (from + width ≤? length ns)
-          (λ t. omega (arith, e ∙ if_true (from + width ≤? length ns) (from + width) (length ns) t, leb-true (from + width) (length ns) t))
-          (λ f. omega (arith, e ∙ if_false (from + width ≤? length ns) (from + width) (length ns) f))
-
-  pub rows_end : left ≤ 0 → Printed out at (rows_bytes label width n ns) out₁ a
-  rows_end l = printing_ends out at (rows_bytes label width n ns) out₁ a (rows_bytes label width left (drop from ns)) g.printing (rows_over label width left (drop from ns) l)
+  pub rows_end : n ≤ i → Printed out at (rows_bytes label width n ns) out₁ a
+  rows_end l = printing_ends out at (rows_bytes label width n ns) out₁ a (rows_bytes label width (n - i) (drop from ns)) g.printing (rows_over label width (n - i) (drop from ns) (omega arith))
 
 -- ---- numbered lines
 numbered_first : (label ns : List ℕ) (i n : ℕ) → numbered_bytes label ns i (suc n) ≡ line_bytes label (i ∷ get_or ns i 0 ∷ []) ++ numbered_bytes label ns (i + 1) n
@@ -121,31 +110,28 @@ module _ (out : List ℕ) (at a b : ℕ) (out₁ : List ℕ) (p : ℕ) (out₂ :
 module _ (out : List ℕ) (at tag a b : ℕ) (out₁ : List ℕ) (r : ℕ) where
   pub source_const : tag ≡ 0 → Printed out at (line_bytes const_word []) out₁ r → Printed out at (source_bytes tag a b) out₁ r
   unfolding source_bytes
-  source_const e w = rw (eq-eqb tag 0 e) w
+  source_const e w = rw e w
 
-  module _ (n0 : tag ≡ 0 → ⊥) where
-    pub source_and : tag ≡ 1 → Printed out at (line_bytes and_word (a ∷ b ∷ [])) out₁ r → Printed out at (source_bytes tag a b) out₁ r
-    unfolding source_bytes
-    source_and e w = rw (ne_eqb tag 0 n0, eq-eqb tag 1 e) w
+  pub source_and : tag ≡ 1 → Printed out at (line_bytes and_word (a ∷ b ∷ [])) out₁ r → Printed out at (source_bytes tag a b) out₁ r
+  unfolding source_bytes
+  source_and e w = rw e w
 
-    module _ (n1 : tag ≡ 1 → ⊥) where
-      pub source_port : tag ≡ 2 → Printed out at (line_bytes port_word (a ∷ [])) out₁ r → Printed out at (source_bytes tag a b) out₁ r
-      unfolding source_bytes
-      source_port e w = rw (ne_eqb tag 0 n0, ne_eqb tag 1 n1, eq-eqb tag 2 e) w
+  pub source_port : tag ≡ 2 → Printed out at (line_bytes port_word (a ∷ [])) out₁ r → Printed out at (source_bytes tag a b) out₁ r
+  unfolding source_bytes
+  source_port e w = rw e w
 
-      module _ (n2 : tag ≡ 2 → ⊥) where
-        pub source_flag : tag ≡ 3 → Printed out at (flag_bytes a b) out₁ r → Printed out at (source_bytes tag a b) out₁ r
-        unfolding source_bytes
-        source_flag e w = rw (ne_eqb tag 0 n0, ne_eqb tag 1 n1, ne_eqb tag 2 n2, eq-eqb tag 3 e) w
+  pub source_flag : tag ≡ 3 → Printed out at (flag_bytes a b) out₁ r → Printed out at (source_bytes tag a b) out₁ r
+  unfolding source_bytes
+  source_flag e w = rw e w
 
-        module _ (n3 : tag ≡ 3 → ⊥) where
-          pub source_dff : tag ≡ 4 → Printed out at (line_bytes dff_word (a ∷ [])) out₁ r → Printed out at (source_bytes tag a b) out₁ r
-          unfolding source_bytes
-          source_dff e w = rw (ne_eqb tag 0 n0, ne_eqb tag 1 n1, ne_eqb tag 2 n2, ne_eqb tag 3 n3, eq-eqb tag 4 e) w
+  pub source_dff : tag ≡ 4 → Printed out at (line_bytes dff_word (a ∷ [])) out₁ r → Printed out at (source_bytes tag a b) out₁ r
+  unfolding source_bytes
+  source_dff e w = rw e w
 
-          pub source_ram : (tag ≡ 4 → ⊥) → Printed out at (line_bytes ram_word (a ∷ [])) out₁ r → Printed out at (source_bytes tag a b) out₁ r
-          unfolding source_bytes
-          source_ram e w = rw (ne_eqb tag 0 n0, ne_eqb tag 1 n1, ne_eqb tag 2 n2, ne_eqb tag 3 n3, ne_eqb tag 4 e) w
+  pub source_ram : (tag ≡ 0 → ⊥) → (tag ≡ 1 → ⊥) → (tag ≡ 2 → ⊥) → (tag ≡ 3 → ⊥) → (tag ≡ 4 → ⊥)
+      → Printed out at (line_bytes ram_word (a ∷ [])) out₁ r → Printed out at (source_bytes tag a b) out₁ r
+  unfolding source_bytes
+  source_ram n0 n1 n2 n3 n4 w = rw (ne_eqb tag 0 n0, ne_eqb tag 1 n1, ne_eqb tag 2 n2, ne_eqb tag 3 n3, ne_eqb tag 4 n4) w
 
 pub printed_driver : (out : List ℕ) (at i tag a b : ℕ) (out₁ : List ℕ) (p : ℕ) (out₂ : List ℕ) (q : ℕ) (out₃ : List ℕ) (s : ℕ) (out₄ : List ℕ) (r : ℕ)
     → Printed out at driver_word out₁ p → Printed out₁ p (field_bytes i) out₂ q → Printed out₂ q (9 ∷ []) out₃ s → Printed out₃ s (source_bytes tag a b) out₄ r

@@ -2,16 +2,16 @@
 use mathlib.Core.Path.{◌≡◌, refl, sym, ◌∙◌, ap, subst}
 use mathlib.Core.Bool.{true, false}
 use mathlib.Core.List.{List, [], ◌∷◌, ◌++◌, append_assoc, append-nil}
-use Prim.Native.Nat.{ℕ, zero, suc, ◌+◌, ◌-◌, ◌/◌, ◌%◌, ◌<◌, ◌≤◌}
+use Prim.Native.Nat.{ℕ, zero, suc, ◌+◌, ◌-◌, ◌/◌, ◌%◌, ◌<◌, ◌≤◌, min}
 use native.Mathlib.Omega.{arith}
 use native.Mathlib.Numerals.{add-one}
 use borrow.Author.Tests.{eq-eqb, ne_eqb, le-leb, lt-leb, leb-true, leb-false}
 use lib.ListN.{length, get_or, take, drop, set, length-append, length-set, length-drop}
 use lib.Seq.{drop-cons, drop-length, set_out, take_all}
-use Rattle.std.specs.Prelude.{if◌then◌else◌}
+use Rattle.std.proofs.Common.{◌⊎◌, inl, inr}
 use Rattle.laws.specs.Tests.{◌≤?◌}
 use Rattle.laws.specs.Words.{part}
-use Rattle.laws.proofs.Tests.{by_test, if_true, if_false}
+use Rattle.laws.proofs.Tests.{by_test}
 use Rattle.texts.specs.Text.{stored}
 use Rattle.texts.proofs.Bytes.{stored-append, stored-length}
 use Rattle.answers.specs.Printing.{reach, Printed, digit_at, digits_from, decimal, field_bytes, fields_bytes, line_bytes}
@@ -184,39 +184,32 @@ module _ (out : List ℕ) (at p n : ℕ) where
   digit-none e = rw (eq-eqb p 0 e) (printed_none out at)
 
   module _ (some : p ≡ 0 → ⊥) where
-    pub digit_last : (out₁ : List ℕ) (a b : ℕ) → p ≡ 1 → b ≡ 48 + n / p % 10 → Printed out at (b ∷ []) out₁ a → Printed out at (digit_at p n) out₁ a
+    pub digit_counts : (out₁ : List ℕ) (a b : ℕ) → (p ≡ 1) ⊎ ((p ≡ 1 → ⊥) × (p ≤ n)) → b ≡ 48 + n / p % 10 → Printed out at (b ∷ []) out₁ a → Printed out at (digit_at p n) out₁ a
     unfolding digit_at
-    digit_last out₁ a b o e q = rw (ne_eqb p 0 some, eq-eqb p 1 o) (subst (λ (k : ℕ). Printed out at (k ∷ []) out₁ a) e q)
+    digit_counts out₁ a b (inl o) e q = rw (ne_eqb p 0 some, eq-eqb p 1 o) (subst (λ (k : ℕ). Printed out at (k ∷ []) out₁ a) e q)
+    digit_counts out₁ a b (inr (not_last, l)) e q = rw (ne_eqb p 0 some, ne_eqb p 1 not_last, le-leb p n l) (subst (λ (k : ℕ). Printed out at (k ∷ []) out₁ a) e q)
 
-    module _ (not_last : p ≡ 1 → ⊥) where
-      pub digit_counts : (out₁ : List ℕ) (a b : ℕ) → p ≤ n → b ≡ 48 + n / p % 10 → Printed out at (b ∷ []) out₁ a → Printed out at (digit_at p n) out₁ a
-      unfolding digit_at
-      digit_counts out₁ a b l e q = rw (ne_eqb p 0 some, ne_eqb p 1 not_last, le-leb p n l) (subst (λ (k : ℕ). Printed out at (k ∷ []) out₁ a) e q)
+    pub digit_leads : (p ≡ 1 → ⊥) → n < p → Printed out at (digit_at p n) out at
+    unfolding digit_at
+    digit_leads not_last l = rw (ne_eqb p 0 some, ne_eqb p 1 not_last, lt-leb p n l) (printed_none out at)
 
-      pub digit_leads : n < p → Printed out at (digit_at p n) out at
-      unfolding digit_at
-      digit_leads l = rw (ne_eqb p 0 some, ne_eqb p 1 not_last, lt-leb p n l) (printed_none out at)
+pub record Digits (out : List ℕ) (at n : ℕ) (out₁ : List ℕ) (a p i : ℕ) : Type 0 where
+  pub printing : Printing out at (decimal n) out₁ a (digits_from (10 - i) p n)
 
-pub record Digits (out : List ℕ) (at n : ℕ) (out₁ : List ℕ) (a p k : ℕ) : Type 0 where
-  pub printing : Printing out at (decimal n) out₁ a (digits_from k p n)
-  pub inside : k ≤ 10
+pub digits_begin : (out : List ℕ) (at n : ℕ) → Digits out at n out at 1000000000 0
+digits_begin out at n = record { printing = printing_begins out at (decimal n) }
 
-pub digits_begin : (out : List ℕ) (at n : ℕ) → Digits out at n out at 1000000000 10
-digits_begin out at n = record { printing = printing_begins out at (decimal n); inside = omega arith }
-
-digits-next : (k p n : ℕ) → 0 < k → digits_from k p n ≡ digit_at p n ++ digits_from (k - 1) (p / 10) n
-digits-next zero p n l = absurd (omega (arith, l))
-digits-next (suc k) p n l = let e : suc k - 1 ≡ k = omega arith in digits_first k p n ∙ ap (λ (j : ℕ). digit_at p n ++ digits_from j (p / 10) n) (sym e)
-
-module _ (out : List ℕ) (at n : ℕ) (out₁ : List ℕ) (a p k : ℕ) (g : Digits out at n out₁ a p k) where
-  pub digits_go_on : (out₂ : List ℕ) (b : ℕ) → 0 < k → Printed out₁ a (digit_at p n) out₂ b → Digits out at n out₂ b (p / 10) (k - 1)
+module _ (out : List ℕ) (at n : ℕ) (out₁ : List ℕ) (a p i : ℕ) (g : Digits out at n out₁ a p i) where
+  pub digits_go_on : (out₂ : List ℕ) (b : ℕ) → i < 10 → Printed out₁ a (digit_at p n) out₂ b → Digits out at n out₂ b (p / 10) (i + 1)
   digits_go_on out₂ b l q = record {
-    printing = printing_more out at (decimal n) out₁ a (digits_from k p n) g.printing (digit_at p n) (digits_from (k - 1) (p / 10) n) out₂ b (digits-next k p n l) q;
-    inside = omega (arith, g.inside);
+    printing = printing_more out at (decimal n) out₁ a (digits_from (10 - i) p n) g.printing (digit_at p n) (digits_from (10 - (i + 1)) (p / 10) n) out₂ b next q;
   }
+    where
+      next : digits_from (10 - i) p n ≡ digit_at p n ++ digits_from (10 - (i + 1)) (p / 10) n
+      next = let e : 10 - i ≡ suc (10 - (i + 1)) = omega arith in ap (λ (k : ℕ). digits_from k p n) e ∙ digits_first (10 - (i + 1)) p n
 
-  pub digits_end : k ≤ 0 → Printed out at (decimal n) out₁ a
-  digits_end l = printing_ends out at (decimal n) out₁ a (digits_from k p n) g.printing (digits-over k p n l)
+  pub digits_end : 10 ≤ i → Printed out at (decimal n) out₁ a
+  digits_end l = printing_ends out at (decimal n) out₁ a (digits_from (10 - i) p n) g.printing (digits-over (10 - i) p n (omega arith))
 
 -- ---- fields and lines
 pub record Fields (out : List ℕ) (at : ℕ) (ns out₁ : List ℕ) (a i : ℕ) : Type 0 where
@@ -250,14 +243,7 @@ printed_line out at label ns out₁ a out₂ b out₃ c p q s =
     printed_then out at label (fields_bytes ns ++ (10 ∷ [])) out₁ a out₃ c p (printed_then out₁ a (fields_bytes ns) (10 ∷ []) out₂ b out₃ c q s)
 
 -- ---- a part of a table, as far as it reaches
-pub least_first : (a b : ℕ) → a ≤ b → (a ≡ (if a ≤? b then a else b)) × (a ≤ b)
-least_first a b l = (rw (le-leb a b l), l)
-
-pub least_second : (a b : ℕ) → b < a → (b ≡ (if a ≤? b then a else b)) × (b ≤ b)
-least_second a b l = (rw (lt-leb a b l), omega arith)
-
-pub part_reaches : (ns : List ℕ) (from n f m : ℕ) → f ≡ (if from ≤? length ns then from else length ns) → m ≡ (if n ≤? length ns - f then n else length ns - f)
-    → take (f + m - f) (drop f ns) ≡ part ns from n
+pub part_reaches : (ns : List ℕ) (from n f m : ℕ) → f ≡ min from (length ns) → m ≡ min n (length ns - f) → take (f + m - f) (drop f ns) ≡ part ns from n
 unfolding part
 part_reaches ns from n f m ef em =
     let q : f + m - f ≡ m = omega arith in
@@ -265,17 +251,18 @@ part_reaches ns from n f m ef em =
   where
     cut : (l : List ℕ) → length l ≡ length ns - f → take m l ≡ take n l
     cut l e = by_test (n ≤? length ns - f)
-        (λ t. ap (λ (k : ℕ). take k l) (em ∙ if_true (n ≤? length ns - f) n (length ns - f) t))
-        (λ g. take_all m l (omega (arith, e, em ∙ if_false (n ≤? length ns - f) n (length ns - f) g)) ∙ sym (take_all n l (omega (arith, e, leb-false n (length ns - f) g))))
+        (λ t. let q : m ≡ n = omega (arith, em, leb-true n (length ns - f) t) in ap (λ (k : ℕ). take k l) q)
+        (λ g. take_all m l (omega (arith, e, em, leb-false n (length ns - f) g)) ∙ sym (take_all n l (omega (arith, e, leb-false n (length ns - f) g))))
 
     inside : (from ≤? length ns) ≡ true → take m (drop f ns) ≡ take n (drop from ns)
-    inside t = cut (drop f ns) (length-drop f ns) ∙ ap (λ (k : ℕ). take n (drop k ns)) (ef ∙ if_true (from ≤? length ns) from (length ns) t)
+    inside t = let q : f ≡ from = omega (arith, ef, leb-true from (length ns) t) in cut (drop f ns) (length-drop f ns) ∙ ap (λ (k : ℕ). take n (drop k ns)) q
 
     past : (from ≤? length ns) ≡ false → take m (drop f ns) ≡ take n (drop from ns)
-    past g = cut (drop f ns) (length-drop f ns) ∙ ap (λ (l : List ℕ). take n l) (drop-none f ns (omega (arith, ef ∙ if_false (from ≤? length ns) from (length ns) g)) ∙ sym (drop-none from ns (omega (arith, leb-false from (length ns) g))))
+    past g = cut (drop f ns) (length-drop f ns) ∙ ap (λ (l : List ℕ). take n l)
+        (drop-none f ns (omega (arith, ef, leb-false from (length ns) g)) ∙ sym (drop-none from ns (omega (arith, leb-false from (length ns) g))))
 
 pub printed_part : (out : List ℕ) (at : ℕ) (label ns : List ℕ) (from n f m : ℕ) (out₁ : List ℕ) (a : ℕ)
-    → f ≡ (if from ≤? length ns then from else length ns) → m ≡ (if n ≤? length ns - f then n else length ns - f)
+    → f ≡ min from (length ns) → m ≡ min n (length ns - f)
     → Printed out at (line_bytes label (take (f + m - f) (drop f ns))) out₁ a → Printed out at (line_bytes label (part ns from n)) out₁ a
 printed_part out at label ns from n f m out₁ a ef em p = printed_is out at (line_bytes label (take (f + m - f) (drop f ns))) (line_bytes label (part ns from n)) out₁ a
     (ap (λ (l : List ℕ). line_bytes label l) (part_reaches ns from n f m ef em)) p

@@ -1,37 +1,37 @@
 -- The answer text: a graph and its stages, line by line.
-use Rattle.std.specs.Prelude.{List, [], ◌∷◌, ◌++◌, ℕ, zero, suc, ◌+◌, ◌*◌, get_or, if◌then◌else◌, ◌==◌}
+use Rattle.std.specs.Prelude.{List, [], ◌∷◌, ◌++◌, ℕ, zero, suc, ◌+◌, ◌*◌, get_or, if◌then◌else◌, ◌==◌, codes}
 use Rattle.laws.specs.Words.{part}
 use Rattle.texts.specs.Text.{tab}
 use Rattle.answers.specs.Printing.{field_bytes, line_bytes}
 
 -- what drives a pin: its words in the driver table
 abbrev pub const_word : List ℕ
-const_word = 99 ∷ 111 ∷ 110 ∷ 115 ∷ 116 ∷ []
+const_word = codes "const"
 
 abbrev pub and_word : List ℕ
-and_word = 97 ∷ 110 ∷ 100 ∷ []
+and_word = codes "and"
 
 abbrev pub port_word : List ℕ
-port_word = 112 ∷ 111 ∷ 114 ∷ 116 ∷ []
+port_word = codes "port"
 
 abbrev pub flag_word : List ℕ
-flag_word = 102 ∷ 108 ∷ 97 ∷ 103 ∷ []
+flag_word = codes "flag"
 
 abbrev pub dff_word : List ℕ
-dff_word = 100 ∷ 102 ∷ 102 ∷ []
+dff_word = codes "dff"
 
 abbrev pub ram_word : List ℕ
-ram_word = 114 ∷ 97 ∷ 109 ∷ []
+ram_word = codes "ram"
 
 abbrev pub driver_word : List ℕ
-driver_word = 100 ∷ 114 ∷ 105 ∷ 118 ∷ 101 ∷ 114 ∷ []
+driver_word = codes "driver"
 
 -- "rising" and "falling" with a tab before and a newline behind
 abbrev pub rising_end : List ℕ
-rising_end = 9 ∷ 114 ∷ 105 ∷ 115 ∷ 105 ∷ 110 ∷ 103 ∷ 10 ∷ []
+rising_end = codes "\trising\n"
 
 abbrev pub falling_end : List ℕ
-falling_end = 9 ∷ 102 ∷ 97 ∷ 108 ∷ 108 ∷ 105 ∷ 110 ∷ 103 ∷ 10 ∷ []
+falling_end = codes "\tfalling\n"
 
 -- the rest of the line behind `driver PIN` and a tab, by the tag
 unfoldable pub flag_bytes : ℕ → ℕ → List ℕ
@@ -58,16 +58,16 @@ drivers_bytes ds i (suc n) = driver_at ds i ++ drivers_bytes ds (i + 1) n
 
 -- a stage: its ends, what it hands on and what it takes
 abbrev pub stage_word : List ℕ
-stage_word = 115 ∷ 116 ∷ 97 ∷ 103 ∷ 101 ∷ []
+stage_word = codes "stage"
 
 abbrev pub hand_word : List ℕ
-hand_word = 104 ∷ 97 ∷ 110 ∷ 100 ∷ []
+hand_word = codes "hand"
 
 abbrev pub ends_word : List ℕ
-ends_word = 101 ∷ 110 ∷ 100 ∷ 115 ∷ []
+ends_word = codes "ends"
 
 abbrev pub open_end : List ℕ
-open_end = 9 ∷ 101 ∷ 110 ∷ 100 ∷ 10 ∷ []
+open_end = codes "\tend\n"
 
 -- a stage without upper end has 4,294,967,295 for it
 unfoldable pub ends_bytes : ℕ → ℕ → List ℕ

@@ -7,6 +7,8 @@ ghost use Rattle.laws.specs.Words.{part};
 ghost use Rattle.answers.specs.Printing.{Printed, digit_at, decimal, field_bytes, fields_bytes, line_bytes, rows_bytes, numbered_bytes};
 ghost use Rattle.answers.specs.Answer.{flag_bytes, source_bytes, driver_bytes, driver_at, drivers_bytes, ends_bytes, stage_at, stages_bytes};
 
+use texts::word_at;
+
 fn put_byte(out: &mut [u8], at: usize, b: u8) -> usize
     ensures { Printed out.old at (b ∷ []) out.new result }
 {
@@ -22,10 +24,8 @@ pub fn put_bytes(out: &mut [u8], at: usize, w: &[u8]) -> usize
     ensures { Printed out.old at w.now out.new result }
 {
     let mut a = at;
-    let mut i = 0;
-    while i < w.len() {
-        a = put_byte(out, a, w[i]);
-        i += 1;
+    for &b in w {
+        a = put_byte(out, a, b);
     }
     a
 }
@@ -34,7 +34,7 @@ fn digit_byte(d: u32) -> u8
     requires { d < 10 }
     ensures { result ≡ 48 + d }
 {
-    (48 + d) as u8
+    b'0' + d as u8
 }
 
 // The digit of n at the power p, where it counts.
@@ -44,12 +44,8 @@ fn put_digit(out: &mut [u8], at: usize, p: u32, n: u32) -> usize
     if p == 0 {
         return at;
     }
-    let d = n / p % 10;
-    if p == 1 {
-        return put_byte(out, at, digit_byte(d));
-    }
-    if p <= n {
-        return put_byte(out, at, digit_byte(d));
+    if p == 1 || p <= n {
+        return put_byte(out, at, digit_byte(n / p % 10));
     }
     at
 }
@@ -60,11 +56,9 @@ pub fn put_number(out: &mut [u8], at: usize, n: u32) -> usize
 {
     let mut a = at;
     let mut p = 1000000000u32;
-    let mut k = 10usize;
-    while 0 < k {
+    for _ in 0..10u32 {
         a = put_digit(out, a, p, n);
-        p = p / 10;
-        k -= 1;
+        p /= 10;
     }
     a
 }
@@ -73,7 +67,7 @@ pub fn put_number(out: &mut [u8], at: usize, n: u32) -> usize
 pub fn put_field(out: &mut [u8], at: usize, n: u32) -> usize
     ensures { Printed out.old at (field_bytes n) out.new result }
 {
-    let a = put_byte(out, at, 9);
+    let a = put_byte(out, at, b'\t');
     put_number(out, a, n)
 }
 
@@ -82,10 +76,8 @@ pub fn put_fields(out: &mut [u8], at: usize, ns: &[u32]) -> usize
     ensures { Printed out.old at (fields_bytes ns.now) out.new result }
 {
     let mut a = at;
-    let mut i = 0;
-    while i < ns.len() {
-        a = put_field(out, a, ns[i]);
-        i += 1;
+    for &n in ns {
+        a = put_field(out, a, n);
     }
     a
 }
@@ -96,36 +88,16 @@ pub fn put_line(out: &mut [u8], at: usize, label: &[u8], ns: &[u32]) -> usize
 {
     let a = put_bytes(out, at, label);
     let b = put_fields(out, a, ns);
-    put_byte(out, b, 10)
-}
-
-fn least(a: usize, b: usize) -> usize
-    ensures { (result ≡ if a ≤? b then a else b) × (result ≤ b) }
-{
-    if a <= b {
-        return a;
-    }
-    b
+    put_byte(out, b, b'\n')
 }
 
 // A line of n words of a table from a place on, or of as many as there are.
 pub fn put_part(out: &mut [u8], at: usize, label: &[u8], ns: &[u32], from: usize, n: usize) -> usize
     ensures { Printed out.old at (line_bytes label.now (part ns.now «from» n)) out.new result }
 {
-    let f = least(from, ns.len());
-    let left = ns.len() - f;
-    let m = least(n, left);
+    let f = from.min(ns.len());
+    let m = n.min(ns.len() - f);
     put_line(out, at, label, &ns[f..f + m])
-}
-
-// The word of a table at a place, 0 past its end.
-fn word_at(ns: &[u32], i: usize) -> u32
-    ensures { result ≡ get_or ns.now i 0 }
-{
-    if i < ns.len() {
-        return ns[i];
-    }
-    0
 }
 
 // n lines of `width` words each.
@@ -135,11 +107,9 @@ pub fn put_rows(out: &mut [u8], at: usize, label: &[u8], ns: &[u32], width: u32,
     let w = width as usize;
     let mut a = at;
     let mut from = 0;
-    let mut left = n;
-    while 0 < left {
+    for _ in 0..n {
         a = put_part(out, a, label, ns, from, w);
-        from = least(from + w, ns.len());
-        left -= 1;
+        from = (from + w).min(ns.len());
     }
     a
 }
@@ -149,11 +119,9 @@ pub fn put_numbered(out: &mut [u8], at: usize, label: &[u8], ns: &[u32], n: u32)
     ensures { Printed out.old at (numbered_bytes label.now ns.now 0 n) out.new result }
 {
     let mut a = at;
-    let mut i = 0u32;
-    while i < n {
+    for i in 0..n {
         let v = word_at(ns, i as usize);
         a = put_line(out, a, label, &[i, v]);
-        i += 1;
     }
     a
 }
@@ -165,31 +133,24 @@ fn put_flag(out: &mut [u8], at: usize, a: u32, b: u32) -> usize
     let p = put_bytes(out, at, b"flag");
     let q = put_field(out, p, a);
     if b == 0 {
-        return put_bytes(out, q, b"\trising\n");
+        put_bytes(out, q, b"\trising\n")
+    } else {
+        put_bytes(out, q, b"\tfalling\n")
     }
-    put_bytes(out, q, b"\tfalling\n")
 }
 
 // What drives a pin, behind `driver PIN`.
 fn put_source(out: &mut [u8], at: usize, tag: u32, a: u32, b: u32) -> usize
     ensures { Printed out.old at (source_bytes tag a b) out.new result }
 {
-    if tag == 0 {
-        return put_line(out, at, b"const", &[]);
+    match tag {
+        0 => put_line(out, at, b"const", &[]),
+        1 => put_line(out, at, b"and", &[a, b]),
+        2 => put_line(out, at, b"port", &[a]),
+        3 => put_flag(out, at, a, b),
+        4 => put_line(out, at, b"dff", &[a]),
+        _ => put_line(out, at, b"ram", &[a]),
     }
-    if tag == 1 {
-        return put_line(out, at, b"and", &[a, b]);
-    }
-    if tag == 2 {
-        return put_line(out, at, b"port", &[a]);
-    }
-    if tag == 3 {
-        return put_flag(out, at, a, b);
-    }
-    if tag == 4 {
-        return put_line(out, at, b"dff", &[a]);
-    }
-    put_line(out, at, b"ram", &[a])
 }
 
 fn put_driver(out: &mut [u8], at: usize, i: u32, tag: u32, a: u32, b: u32) -> usize
@@ -197,7 +158,7 @@ fn put_driver(out: &mut [u8], at: usize, i: u32, tag: u32, a: u32, b: u32) -> us
 {
     let p = put_bytes(out, at, b"driver");
     let q = put_field(out, p, i);
-    let s = put_byte(out, q, 9);
+    let s = put_byte(out, q, b'\t');
     put_source(out, s, tag, a, b)
 }
 
@@ -217,10 +178,8 @@ pub fn put_drivers(out: &mut [u8], at: usize, ds: &[u32], n: u32) -> usize
     ensures { Printed out.old at (drivers_bytes ds.now 0 n) out.new result }
 {
     let mut p = at;
-    let mut i = 0u32;
-    while i < n {
+    for i in 0..n {
         p = put_driver_at(out, p, ds, i);
-        i += 1;
     }
     p
 }
@@ -228,7 +187,7 @@ pub fn put_drivers(out: &mut [u8], at: usize, ds: &[u32], n: u32) -> usize
 fn put_ends(out: &mut [u8], at: usize, lower: u32, upper: u32) -> usize
     ensures { Printed out.old at (ends_bytes lower upper) out.new result }
 {
-    if upper == 4294967295 {
+    if upper == u32::MAX {
         let p = put_bytes(out, at, b"stage");
         let q = put_field(out, p, lower);
         return put_bytes(out, q, b"\tend\n");
@@ -278,10 +237,9 @@ pub fn put_stages(
     ensures { Printed out.old at (stages_bytes rows.now handed.now taken.now 0 0 0 n) out.new result }
 {
     let mut p = at;
-    let mut i = 0u32;
     let mut h = 0usize;
     let mut t = 0usize;
-    while i < n {
+    for i in 0..n {
         let row = Row {
             i,
             handed: h,
@@ -291,7 +249,6 @@ pub fn put_stages(
         let k = 4 * (i as usize);
         h += word_at(rows, k + 2) as usize;
         t += word_at(rows, k + 3) as usize;
-        i += 1;
     }
     p
 }

@@ -30,8 +30,8 @@ fn print_word(out: &mut impl Write, w: u32) -> io::Result<()> {
 }
 
 fn print_each(out: &mut impl Write, ws: &[u32]) -> io::Result<()> {
-    for w in ws {
-        print_word(out, *w)?;
+    for &w in ws {
+        print_word(out, w)?;
     }
     Ok(())
 }

@@ -4,22 +4,10 @@ use mathlib.Core.List.{List, [], ◌∷◌, ◌++◌}
 use Prim.Native.Nat.{ℕ, zero, suc, ◌+◌, ◌-◌, ◌*◌, ◌<◌, ◌≤◌}
 use native.Mathlib.Omega.{arith}
 use native.Mathlib.Numerals.{add-one}
-use borrow.Author.Tests.{eq-eqb, ne_eqb, le-leb, lt-leb}
 use lib.ListN.{length, get_or, set, length-append, length-set}
-use lib.Seq.{set_out}
-use Rattle.texts.specs.declared.Reading.{Reading}
 use Rattle.texts.specs.Text.{stored}
 use Rattle.texts.proofs.Bytes.{stored-append, stored-length}
-use Rattle.sheets.specs.Sheets.{words_from, kinds_from, starts_from, cell_words, list_from, net_word, nets_from, read_number, Numbered, Copied}
-
-pub word_past : (ns : List ℕ) (i : ℕ) → length ns ≤ i → 0 ≡ get_or ns i 0
-word_past [] zero l = refl
-word_past [] (suc i) l = refl
-word_past (x ∷ xs) zero l = absurd (omega (arith, l))
-word_past (x ∷ xs) (suc i) l = word_past xs i (omega (arith, l))
-
-pub put_past : (t : List ℕ) (i v : ℕ) → length t ≤ i → t ≡ set t i v
-put_past t i v l = sym (set_out t i v l)
+use Rattle.sheets.specs.Sheets.{words_from, kinds_from, starts_from, cell_words, list_from, net_word, nets_from, Copied}
 
 stored_nil : (t : List ℕ) (i : ℕ) → t ≡ stored t i []
 unfolding stored
@@ -97,9 +85,6 @@ module _ (ss : List ℕ) (n : ℕ) (out out₁ : List ℕ) (i : ℕ) (g : Starts
   pub starts_end : n ≤ i → out₁ ≡ stored out 0 (starts_from ss n)
   starts_end l = let e : i ≡ n = omega (arith, g.inside) in g.is ∙ ap (λ (k : ℕ). stored out 0 (starts_from ss k)) e
 
-pub less_none : (a b : ℕ) → a < b → 0 ≡ a - b
-less_none a b l = omega arith
-
 -- ---- words copied
 words_long : (ns : List ℕ) (a k : ℕ) → length (words_from ns a k) ≡ k
 unfolding words_from
@@ -120,31 +105,38 @@ stored_first : (t : List ℕ) (i v : ℕ) (vs : List ℕ) → stored t i (v ∷ 
 unfolding stored
 stored_first t i v vs = refl
 
-pub record Copying (ns : List ℕ) (a k : ℕ) (out : List ℕ) (at : ℕ) (out₁ : List ℕ) (i p left : ℕ) : Type 0 where
-  pub rest : stored out₁ p (words_from ns i left) ≡ stored out at (words_from ns a k)
-  pub place : p + left ≡ at + k
-  pub next : i + left ≡ a + k
-  pub few : left ≤ k
+pub record Copying (ns : List ℕ) (a k : ℕ) (out : List ℕ) (at : ℕ) (out₁ : List ℕ) (i : ℕ) : Type 0 where
+  pub rest : stored out₁ (at + i) (words_from ns (a + i) (k - i)) ≡ stored out at (words_from ns a k)
   pub long : length out₁ ≡ length out
 
-pub copy_begins : (ns : List ℕ) (a k : ℕ) (out : List ℕ) (at : ℕ) → Copying ns a k out at out a at k
-copy_begins ns a k out at = record { rest = refl; place = refl; next = refl; few = omega arith; long = refl }
+pub copy_begins : (ns : List ℕ) (a k : ℕ) (out : List ℕ) (at : ℕ) → Copying ns a k out at out 0
+copy_begins ns a k out at = record {
+  rest =
+      let e : at + 0 ≡ at = omega arith in
+      let f : a + 0 ≡ a = omega arith in
+      let g : k - 0 ≡ k = omega arith in
+      rw (e, f, g);
+  long = refl;
+}
 
-module _ (ns : List ℕ) (a k : ℕ) (out : List ℕ) (at : ℕ) (out₁ : List ℕ) (i p left : ℕ) (g : Copying ns a k out at out₁ i p left) where
-  pub copy_goes_on : (v : ℕ) (out₂ : List ℕ) → 0 < left → v ≡ get_or ns i 0 → out₂ ≡ set out₁ p v → Copying ns a k out at out₂ (i + 1) (p + 1) (left - 1)
+module _ (ns : List ℕ) (a k : ℕ) (out : List ℕ) (at : ℕ) (out₁ : List ℕ) (i : ℕ) (g : Copying ns a k out at out₁ i) where
+  pub copy_goes_on : (v : ℕ) (out₂ : List ℕ) → i < k → v ≡ get_or ns (a + i) 0 → out₂ ≡ set out₁ (at + i) v → Copying ns a k out at out₂ (i + 1)
   copy_goes_on v out₂ l ev e = record {
-    rest = ap (λ (t : List ℕ). stored t (p + 1) (words_from ns (i + 1) (left - 1))) (e ∙ ap (λ (x : ℕ). set out₁ p x) ev)
-        ∙ sym (stored_first out₁ p (get_or ns i 0) (words_from ns (i + 1) (left - 1))) ∙ ap (λ (vs : List ℕ). stored out₁ p vs) (sym (words_first ns i left l)) ∙ g.rest;
-    place = omega (arith, g.place);
-    next = omega (arith, g.next);
-    few = omega (arith, g.few);
-    long = ap length e ∙ length-set out₁ p v ∙ g.long;
+    rest = ap (λ (t : List ℕ). stored t (at + (i + 1)) (words_from ns (a + (i + 1)) (k - (i + 1)))) (e ∙ ap (λ (x : ℕ). set out₁ (at + i) x) ev) ∙ next ∙ g.rest;
+    long = ap length e ∙ length-set out₁ (at + i) v ∙ g.long;
   }
+    where
+      next : stored (set out₁ (at + i) (get_or ns (a + i) 0)) (at + (i + 1)) (words_from ns (a + (i + 1)) (k - (i + 1))) ≡ stored out₁ (at + i) (words_from ns (a + i) (k - i))
+      next =
+          let e₁ : at + (i + 1) ≡ at + i + 1 = omega arith in
+          let e₂ : a + (i + 1) ≡ a + i + 1 = omega arith in
+          let e₃ : k - (i + 1) ≡ k - i - 1 = omega arith in
+          rw (e₁, e₂, e₃, words_first ns (a + i) (k - i) (omega arith), stored_first out₁ (at + i) (get_or ns (a + i) 0) (words_from ns (a + i + 1) (k - i - 1)))
 
-  pub copy_ends : left ≤ 0 → Copied ns a k out at out₁ p
+  pub copy_ends : k ≤ i → Copied ns a k out at out₁ (at + k)
   copy_ends l = record {
-    is = stored_nil out₁ p ∙ ap (λ (vs : List ℕ). stored out₁ p vs) (sym (words_over ns i left l)) ∙ g.rest;
-    place = omega (arith, g.place);
+    is = stored_nil out₁ (at + i) ∙ ap (λ (vs : List ℕ). stored out₁ (at + i) vs) (sym (words_over ns (a + i) (k - i) (omega arith))) ∙ g.rest;
+    place = refl;
   }
 
 -- ---- lists
@@ -191,16 +183,6 @@ module _ (ns ss : List ℕ) (n : ℕ) (out out₁ : List ℕ) (i p : ℕ) (g : L
   lists_count l = let e : i ≡ n = omega (arith, g.inside) in g.place ∙ ap (λ (k : ℕ). length (list_from ns ss k)) e
 
 -- ---- nets
-module _ (k p : ℕ) where
-  pub net_constant : k ≤ 1 → k ≡ net_word k p
-  net_constant l = rw (le-leb k 1 l)
-
-  pub net_driven_bit : 1 < k → p ≤ 4294967293 → p + 2 ≡ net_word k p
-  net_driven_bit l h = rw (lt-leb k 1 l, le-leb p 4294967293 h)
-
-  pub net_past : 1 < k → 4294967293 < p → 4294967295 ≡ net_word k p
-  net_past l h = rw (lt-leb k 1 l, lt-leb p 4294967293 h)
-
 nets_long : (ns ss : List ℕ) (first i : ℕ) → length (nets_from ns ss first i) ≡ i
 unfolding nets_from
 nets_long ns ss first zero = refl
@@ -234,36 +216,3 @@ module _ (ns ss : List ℕ) (first n : ℕ) (out out₁ : List ℕ) (i : ℕ) (g
 
   pub nets_end : n ≤ i → out₁ ≡ stored out 0 (nets_from ns ss first n)
   nets_end l = let e : i ≡ n = omega (arith, g.inside) in g.is ∙ ap (λ (k : ℕ). stored out 0 (nets_from ns ss first k)) e
-
--- ---- the number of a reading
-module _ (r : Reading) where
-  refused-one : 1 ≡ read_number r → Numbered r 1
-  refused-one e = record { is = e; cells = λ z. absurd (omega (arith, z)); pins = λ z. absurd (omega (arith, z)); nets = λ z. absurd (omega (arith, z)) }
-
-  module _ (good : r.why ≡ 0) where
-    pub number-cells : 512 < r.cells → Numbered r 1
-    unfolding read_number
-    number-cells l = refused-one (rw (eq-eqb r.why 0 good, lt-leb r.cells 512 l))
-
-    module _ (c : r.cells ≤ 512) where
-      pub number_pins : 512 < r.pins → Numbered r 1
-      unfolding read_number
-      number_pins l = refused-one (rw (eq-eqb r.why 0 good, le-leb r.cells 512 c, lt-leb r.pins 512 l))
-
-      module _ (p : r.pins ≤ 512) where
-        pub number_nets : 512 < r.nets → Numbered r 1
-        unfolding read_number
-        number_nets l = refused-one (rw (eq-eqb r.why 0 good, le-leb r.cells 512 c, le-leb r.pins 512 p, lt-leb r.nets 512 l))
-
-        pub number_good : r.nets ≤ 512 → Numbered r 0
-        unfolding read_number
-        number_good l = record { is = rw (eq-eqb r.why 0 good, le-leb r.cells 512 c, le-leb r.pins 512 p, le-leb r.nets 512 l); cells = λ z. c; pins = λ z. p; nets = λ z. l }
-
-  module _ (bad : r.why ≡ 0 → ⊥) where
-    pub number_long : r.why ≡ 5 → Numbered r 1
-    unfolding read_number
-    number_long e = refused-one (rw (ne_eqb r.why 0 bad, eq-eqb r.why 5 e))
-
-    pub number-broken : (r.why ≡ 5 → ⊥) → Numbered r 17
-    unfolding read_number
-    number-broken e = record { is = rw (ne_eqb r.why 0 bad, ne_eqb r.why 5 e); cells = λ z. absurd (omega (arith, z)); pins = λ z. absurd (omega (arith, z)); nets = λ z. absurd (omega (arith, z)) }

@@ -1,8 +1,12 @@
 -- The netlist tables of a text that was read: from its numbers, one line after the other, and where each line's begin. Behind the last
 -- line's start stands where the numbers end.
-use Rattle.std.specs.Prelude.{◌≡◌, List, [], ◌∷◌, ◌++◌, ℕ, zero, suc, ◌+◌, ◌-◌, ◌≤◌, get_or, if◌then◌else◌, ◌==◌}
+use Rattle.std.specs.Prelude.{◌≡◌, Result, Ok, Err, IfOk, Bool, ◌&&◌, List, [], ◌∷◌, ◌++◌, ℕ, zero, suc, ◌+◌, ◌-◌, ◌≤◌, get_or, if◌then◌else◌}
 use Rattle.laws.specs.Tests.{◌≤?◌}
 use Rattle.texts.specs.declared.Reading.{Reading}
+use Rattle.texts.specs.declared.BrokenText.{BrokenText}
+use Rattle.texts.specs.declared.BrokenText.TheVariants.{TooLong, Line}
+use Rattle.sheets.specs.declared.TextRefusal.{TextRefusal}
+use Rattle.sheets.specs.declared.TextRefusal.TheVariants.{Bounds, Broken}
 use Rattle.texts.specs.Text.{stored}
 
 -- k words from a on
@@ -38,19 +42,22 @@ nets_from ns ss first zero = []
 nets_from ns ss first (suc i) =
     nets_from ns ss first i ++ (net_word (get_or ns (get_or ss (first + i) 0) 0) (get_or ns (get_or ss (first + i) 0 + 1) 0) ∷ [])
 
--- ---- what a reading is answered with before document 01's tests: 17 for a broken line; 1 for a text that is too long, or for
--- more than 512 cells, pins or nets
-unfoldable pub read_number : Reading → ℕ
-read_number r =
-    if r.why == 0 then (if r.cells ≤? 512 then (if r.pins ≤? 512 then (if r.nets ≤? 512 then 0 else 1) else 1) else 1)
-    else (if r.why == 5 then 1 else 17)
+-- ---- what a reading is answered with before document 01's tests: a text that is too long is refused, one with more than 512 cells, pins
+-- or nets, and one with a broken line
+abbrev pub small : Reading → Bool
+small r = (r.cells ≤? 512) && (r.pins ≤? 512) && (r.nets ≤? 512)
+
+abbrev pub accepted : Result Reading BrokenText → Result Reading TextRefusal
+accepted (Ok r) = if small r then Ok r else Err Bounds
+accepted (Err TooLong) = Err Bounds
+accepted (Err (Line r fault)) = Err (Broken r.lines fault)
 
 -- an accepted reading has at most 512 of each
-pub record Numbered (r : Reading) (k : ℕ) : Type 0 where
-  pub is : k ≡ read_number r
-  pub cells : k ≡ 0 → r.cells ≤ 512
-  pub pins : k ≡ 0 → r.pins ≤ 512
-  pub nets : k ≡ 0 → r.nets ≤ 512
+pub record Accepted (read : Result Reading BrokenText) (result : Result Reading TextRefusal) : Type 0 where
+  pub is : result ≡ accepted read
+  pub cells : IfOk result (λ r. r.cells ≤ 512)
+  pub pins : IfOk result (λ r. r.pins ≤ 512)
+  pub nets : IfOk result (λ r. r.nets ≤ 512)
 
 -- words stored from a place on, and the place behind them
 pub record Copied (ns : List ℕ) (a k : ℕ) (out : List ℕ) (at : ℕ) (out' : List ℕ) (r : ℕ) : Type 0 where

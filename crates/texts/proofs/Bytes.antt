@@ -1,18 +1,16 @@
 -- Laws of text as bytes: what stands before a byte, lines and fields from a place on, digits, and words stored in a table.
 use mathlib.Core.Path.{◌≡◌, refl, sym, ◌∙◌, ap, subst}
-use mathlib.Core.Bool.{false}
+use mathlib.Core.Bool.{true, false}
 use mathlib.Core.List.{List, [], ◌∷◌, ◌++◌}
 use Prim.Native.Nat.{ℕ, suc, ◌+◌, ◌-◌, ◌*◌, ◌<◌, ◌≤◌}
 use native.Mathlib.Omega.{arith}
 use native.Mathlib.Numerals.{add-one}
 use borrow.Author.Tests.{eqb-true, eqb-false, eq-eqb, ne_eqb, le-leb, lt-leb, leb-true, leb-false}
 use lib.ListN.{length, get_or, take, drop, set, length-drop, length-set}
-use lib.Seq.{drop-cons, drop-length, drop-drop, set_out}
-use Rattle.std.specs.Prelude.{◌==◌}
+use lib.Seq.{drop-cons, drop-length, drop-drop}
+use Rattle.std.specs.Prelude.{Option, Some, None, ◌==◌}
 use Rattle.laws.specs.Tests.{◌≤?◌}
 use Rattle.laws.proofs.Tests.{by_test, if_true, if_false}
-use Rattle.words.specs.Tables.{same_words}
-use Rattle.words.proofs.Tables.{Agree, agree_goes_on, agree_fails}
 use Rattle.texts.specs.Text.{before, longer, lines, fields, digits, number_of, stored, tab, newline}
 use Rattle.texts.specs.Meanings.{Until, fields_from}
 
@@ -67,8 +65,8 @@ module _ (s : List ℕ) (at stop i : ℕ) (g : Seeking s at stop i) where
       cut : before stop (drop i s) ≡ []
       cut = ap (λ (l : List ℕ). before stop l) (drop-cons s i 0 l) ∙ before_meets stop (get_or s i 0) (drop (suc i) s) e
 
-  pub seek_ends : length s ≤ i → Until s at stop i
-  seek_ends l = record { is = omega (arith, ap length cut, g.rest); inside = g.inside }
+  pub seek_ends : length s ≤ i → Until s at stop (length s)
+  seek_ends l = record { is = omega (arith, ap length cut, g.rest); inside = omega arith }
     where
       whole : i ≡ length s
       whole = omega (arith, g.inside)
@@ -96,82 +94,69 @@ module _ (v b : ℕ) (bs : List ℕ) where
   unfolding digits
   digits_more l h m = rw (le-leb 48 b l, le-leb b 57 h, le-leb (10 * v + (b - 48)) 4294967295 m)
 
-  pub digits_low : b < 48 → digits v (b ∷ bs) ≡ 4294967296
+  pub digits_low : b < 48 → digits v (b ∷ bs) ≡ None
   unfolding digits
   digits_low l = rw (lt-leb 48 b l)
 
-  pub digits_high : 57 < b → digits v (b ∷ bs) ≡ 4294967296
+  pub digits_high : 57 < b → digits v (b ∷ bs) ≡ None
   unfolding digits
   digits_high l = rw (le-leb 48 b (omega arith), lt-leb b 57 l)
 
-  pub digits_large : 48 ≤ b → b ≤ 57 → 4294967295 < 10 * v + (b - 48) → digits v (b ∷ bs) ≡ 4294967296
+  pub digits_large : 48 ≤ b → b ≤ 57 → 4294967295 < 10 * v + (b - 48) → digits v (b ∷ bs) ≡ None
   unfolding digits
   digits_large l h m = rw (le-leb 48 b l, le-leb b 57 h, lt-leb (10 * v + (b - 48)) 4294967295 m)
 
-module _ (s : List ℕ) (i v b : ℕ) (g : Reckoned s i v) (in-s : i < length s) (e : b ≡ get_or s i 0) where
-  cut : drop i s ≡ b ∷ drop (suc i) s
-  cut = drop-cons s i 0 in-s ∙ ap (λ (x : ℕ). x ∷ drop (suc i) s) (sym e)
+module _ (s : List ℕ) (i v : ℕ) (g : Reckoned s i v) (in-s : i < length s) where
+  from : digits 0 s ≡ digits v (get_or s i 0 ∷ drop (suc i) s)
+  from = sym g.same ∙ ap (λ (l : List ℕ). digits v l) (drop-cons s i 0 in-s)
 
-  from : digits 0 s ≡ digits v (b ∷ drop (suc i) s)
-  from = sym g.same ∙ ap (λ (l : List ℕ). digits v l) cut
-
-  pub reckon_goes_on : 48 ≤ b → b ≤ 57 → 10 * v + (b - 48) ≤ 4294967295 → Reckoned s (i + 1) (10 * v + (b - 48))
-  reckon_goes_on l h m = record {
-    same = sym (from ∙ digits_more v b (drop (suc i) s) l h m ∙ ap (λ (k : ℕ). digits (10 * v + (b - 48)) (drop k s)) (sym (add-one i)));
+  pub reckon_goes_on : (w : ℕ) → 48 ≤ get_or s i 0 → get_or s i 0 ≤ 57 → w ≡ 10 * v + (get_or s i 0 - 48) → w ≤ 4294967295 → Reckoned s (i + 1) w
+  reckon_goes_on w l h e m = record {
+    same = sym (from ∙ digits_more v (get_or s i 0) (drop (suc i) s) l h (omega (arith, e)) ∙ ap (λ (k : ℕ). digits k (drop (suc i) s)) (sym e) ∙ ap (λ (k : ℕ). digits w (drop k s)) (sym (add-one i)));
     small = m;
     inside = omega arith;
   }
 
-  pub reckon_low : b < 48 → 4294967296 ≡ digits 0 s
-  reckon_low l = sym (from ∙ digits_low v b (drop (suc i) s) l)
+  pub reckon_low : get_or s i 0 < 48 → None ≡ digits 0 s
+  reckon_low l = sym (from ∙ digits_low v (get_or s i 0) (drop (suc i) s) l)
 
-  pub reckon_high : 57 < b → 4294967296 ≡ digits 0 s
-  reckon_high l = sym (from ∙ digits_high v b (drop (suc i) s) l)
+  pub reckon_high : 57 < get_or s i 0 → None ≡ digits 0 s
+  reckon_high l = sym (from ∙ digits_high v (get_or s i 0) (drop (suc i) s) l)
 
-  pub reckon_large : 48 ≤ b → b ≤ 57 → 4294967295 < 10 * v + (b - 48) → 4294967296 ≡ digits 0 s
-  reckon_large l h m = sym (from ∙ digits_large v b (drop (suc i) s) l h m)
+  pub reckon_large : 48 ≤ get_or s i 0 → get_or s i 0 ≤ 57 → 4294967295 < 10 * v + (get_or s i 0 - 48) → None ≡ digits 0 s
+  reckon_large l h m = sym (from ∙ digits_large v (get_or s i 0) (drop (suc i) s) l h m)
 
-pub reckon_ends : (s : List ℕ) (i v : ℕ) → Reckoned s i v → length s ≤ i → v ≡ digits 0 s
+pub reckon_ends : (s : List ℕ) (i v : ℕ) → Reckoned s i v → length s ≤ i → Some v ≡ digits 0 s
 unfolding digits
 reckon_ends s i v g l =
     let q : i ≡ length s = omega (arith, g.inside) in
     sym (ap (λ (k : List ℕ). digits v k) (ap (λ (k : ℕ). drop k s) q ∙ drop-length s)) ∙ g.same
 
 -- ---- a number
-pub number_empty : (s : List ℕ) → length s ≡ 0 → 4294967296 ≡ number_of s
+pub number_empty : (s : List ℕ) → true ≡ (length s == 0) → None ≡ number_of s
 unfolding number_of
 number_empty [] e = refl
-number_empty (x ∷ xs) e = absurd (omega (arith, e))
+number_empty (x ∷ xs) e = absurd (omega (arith, eqb-true (length (x ∷ xs)) 0 (sym e)))
 
-pub number-single : (s : List ℕ) (r : ℕ) → length s ≡ 1 → r ≡ digits 0 s → r ≡ number_of s
+pub number-single : (s : List ℕ) (r : Option ℕ) → length s ≡ 1 → r ≡ digits 0 s → r ≡ number_of s
 unfolding number_of
 number-single [] r e q = absurd (omega (arith, e))
 number-single (x ∷ []) r e q = q
 number-single (x ∷ y ∷ xs) r e q = absurd (omega (arith, e))
 
-pub number-leading : (s : List ℕ) → (length s ≡ 0 → ⊥) → (length s ≡ 1 → ⊥) → get_or s 0 0 ≡ 48 → 4294967296 ≡ number_of s
+pub number-leading : (s : List ℕ) → false ≡ (length s == 0) → (length s ≡ 1 → ⊥) → get_or s 0 0 ≡ 48 → None ≡ number_of s
 unfolding number_of
-number-leading [] z o e = absurd (z refl)
+number-leading [] z o e = cc
 number-leading (x ∷ []) z o e = absurd (o refl)
 number-leading (x ∷ y ∷ xs) z o e = rw (eq-eqb x 48 e)
 
-pub number_many : (s : List ℕ) (r : ℕ) → (length s ≡ 0 → ⊥) → (length s ≡ 1 → ⊥) → (get_or s 0 0 ≡ 48 → ⊥) → r ≡ digits 0 s → r ≡ number_of s
+pub number_many : (s : List ℕ) (r : Option ℕ) → false ≡ (length s == 0) → (length s ≡ 1 → ⊥) → (get_or s 0 0 ≡ 48 → ⊥) → r ≡ digits 0 s → r ≡ number_of s
 unfolding number_of
-number_many [] r z o n e = absurd (z refl)
+number_many [] r z o n e = cc
 number_many (x ∷ []) r z o n e = absurd (o refl)
 number_many (x ∷ y ∷ xs) r z o n e = rw (ne_eqb x 48 n) e
 
--- ---- words compared, a byte at a time
-pub agree_next : (a b : List ℕ) (i : ℕ) → Agree a b i → get_or a i 0 ≡ get_or b i 0 → Agree a b (i + 1)
-agree_next a b i g e = agree_goes_on a b i (get_or a i 0) (get_or b i 0) g refl refl e
-
-pub agree_breaks : (a b : List ℕ) (i : ℕ) → Agree a b i → (get_or a i 0 ≡ get_or b i 0 → ⊥) → false ≡ same_words a b
-agree_breaks a b i g n = agree_fails a b i (get_or a i 0) (get_or b i 0) refl refl n
-
 -- ---- words stored
-pub put_past : (t : List ℕ) (i v : ℕ) → length t ≤ i → t ≡ set t i v
-put_past t i v l = sym (set_out t i v l)
-
 pub stored-length : (ws t : List ℕ) (i : ℕ) → length (stored t i ws) ≡ length t
 unfolding stored
 stored-length [] t i = refl

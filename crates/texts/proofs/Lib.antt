@@ -1,4 +1,3 @@
 pub mod Bytes
-pub mod Records
 pub mod Numbers
 pub mod Lines

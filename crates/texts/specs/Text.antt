@@ -1,5 +1,5 @@
 -- Text as bytes: lines, fields, and decimal numbers.
-use Rattle.std.specs.Prelude.{Bool, ◌&&◌, List, [], ◌∷◌, ℕ, ◌+◌, ◌-◌, ◌*◌, set, if◌then◌else◌, ◌==◌}
+use Rattle.std.specs.Prelude.{Option, Some, None, Bool, ◌&&◌, List, [], ◌∷◌, ℕ, ◌+◌, ◌-◌, ◌*◌, set, if◌then◌else◌, ◌==◌}
 use Rattle.laws.specs.Tests.{◌≤?◌}
 
 abbrev pub tab : ℕ
@@ -32,23 +32,19 @@ fields (x ∷ xs) = if x == tab then [] ∷ fields xs else longer x (fields xs)
 abbrev pub largest : ℕ
 largest = 4294967295
 
--- what stands for a field that is no number
-abbrev pub none : ℕ
-none = 4294967296
-
 abbrev pub digit : ℕ → Bool
 digit b = (48 ≤? b) && (b ≤? 57)
 
 -- the digits of a list behind a value, which they carry on
-unfoldable pub digits : ℕ → List ℕ → ℕ
-digits v [] = v
-digits v (b ∷ bs) = if digit b then (if 10 * v + (b - 48) ≤? largest then digits (10 * v + (b - 48)) bs else none) else none
+unfoldable pub digits : ℕ → List ℕ → Option ℕ
+digits v [] = Some v
+digits v (b ∷ bs) = if digit b then (if 10 * v + (b - 48) ≤? largest then digits (10 * v + (b - 48)) bs else None) else None
 
 -- 0 by itself, or digits that do not begin with 0
-unfoldable pub number_of : List ℕ → ℕ
-number_of [] = none
+unfoldable pub number_of : List ℕ → Option ℕ
+number_of [] = None
 number_of (b ∷ []) = digits 0 (b ∷ [])
-number_of (b ∷ c ∷ bs) = if b == 48 then none else digits 0 (b ∷ c ∷ bs)
+number_of (b ∷ c ∷ bs) = if b == 48 then None else digits 0 (b ∷ c ∷ bs)
 
 -- ---- numbers stored in a table from a place on, as far as the table reaches
 unfoldable pub stored : List ℕ → ℕ → List ℕ → List ℕ

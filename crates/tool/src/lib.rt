@@ -1,44 +1,53 @@
 // The tool as a function on bytes: a netlist's text in, its answer out. It uses the library's public calls alone.
 #![tactic(auto)]
 
-ghost use Rattle.std.specs.Prelude.{◌≡◌, ◌+◌, ◌*◌, ◌<◌, ◌≤◌, length};
+ghost use Rattle.std.specs.Prelude.{◌≡◌, ◌+◌, ◌*◌, ◌<◌, ◌≤◌, length, take, drop, min};
 ghost use Rattle.answers.specs.Printing.{Printed};
-ghost use Rattle.tool.specs.Tool.{pins_bytes, records_bytes, fanouts_bytes, wrong_bytes, broken_bytes, refused_bytes};
+ghost use Rattle.tool.specs.Tool.{pins_bytes, records_bytes, fanouts_bytes, refusal_bytes, wrong_bytes, broken_bytes, refused_bytes};
 
 use aig::from_netlistdb;
 use answers::{
     put_bytes, put_drivers, put_field, put_line, put_numbered, put_part, put_rows, put_stages,
 };
-use rules::{Built, GraphCounts, NetlistCounts, Rooms, Staged, Tally};
-use sheets::{fill_kinds, fill_list, fill_nets, fill_starts, put_word, read_number, word_at};
+use rules::{
+    EndTables, GraphCounts, GraphTables, NetlistCounts, NetlistTables, Refusal, Rooms, Tally,
+};
+use sheets::{TextRefusal, accepted, fill_kinds, fill_list, fill_nets, fill_starts};
 use staging::build_staged_aigs;
-use texts::{Reading, read};
+use std::io;
+use texts::{Fault, Reading, put_word, read, word_at};
+
+// The first n words of a table, or all of fewer.
+fn first(ws: &[u32], n: usize) -> &[u32]
+    ensures { result.now ≡ take n ws.now }
+{
+    &ws[..n.min(ws.len())]
+}
+
+// The words of a table behind the first n.
+fn behind(ws: &[u32], n: usize) -> &[u32]
+    ensures { result.now ≡ drop n ws.now }
+{
+    &ws[n.min(ws.len())..]
+}
 
 // The pins, the literals of m netlist pins, and the drivers.
 fn put_pins(out: &mut [u8], at: usize, t: Tally, m: u32, literals: &[u32], drivers: &[u32]) -> usize
     requires { t.pins < 4294967295 }
     ensures { Printed out.old at (pins_bytes t m literals.now drivers.now) out.new result }
 {
-    let pins = t.pins;
-    let a = put_line(out, at, b"pins", &[pins]);
+    let a = put_line(out, at, b"pins", &[t.pins]);
     let b = put_numbered(out, a, b"lit", literals, m);
-    put_drivers(out, b, drivers, pins + 1)
+    put_drivers(out, b, drivers, t.pins + 1)
 }
 
 // The records.
-fn put_records(
-    out: &mut [u8],
-    at: usize,
-    t: Tally,
-    outputs: &[u32],
-    dffs: &[u32],
-    rams: &[u32],
-) -> usize
-    ensures { Printed out.old at (records_bytes t outputs.now dffs.now rams.now) out.new result }
+fn put_records(out: &mut [u8], at: usize, e: EndTables) -> usize
+    ensures { Printed out.old at (records_bytes e.entry.counts e.entry.outputs.now e.entry.dffs.now e.entry.rams.now) out.new result }
 {
-    let a = put_rows(out, at, b"output", outputs, 1, t.outputs);
-    let b = put_rows(out, a, b"dff", dffs, 3, t.dffs);
-    put_rows(out, b, b"ram", rams, 123, t.rams)
+    let a = put_rows(out, at, b"output", e.outputs, 1, e.counts.outputs);
+    let b = put_rows(out, a, b"dff", e.dffs, 3, e.counts.dffs);
+    put_rows(out, b, b"ram", e.rams, 123, e.counts.rams)
 }
 
 // The fanouts.
@@ -51,213 +60,74 @@ fn put_fanouts(out: &mut [u8], at: usize, t: Tally, starts: &[u32], fanouts: &[u
     put_part(out, a, b"fanouts", fanouts, 0, 2 * gates)
 }
 
-fn least(a: usize, b: usize) -> usize
-    ensures { (result ≤ a) × (result ≤ b) }
+// The answer to a netlist that is refused.
+fn put_refusal(out: &mut [u8], refusal: Refusal) -> usize
+    ensures { Printed out.old 0 (refusal_bytes refusal) out.new result }
 {
-    if a <= b {
-        return a;
-    }
-    b
-}
-
-fn graph_counts(t: Tally) -> GraphCounts {
-    GraphCounts {
-        pins: t.pins,
-        outputs: t.outputs,
-        dffs: t.dffs,
-        rams: t.rams,
-    }
+    put_line(out, 0, b"refused", &[refusal.number()])
 }
 
 // The stages of a graph, or the number with which they are refused.
-fn put_staged(
-    out: &mut [u8],
-    at: usize,
-    c: GraphCounts,
-    drivers: &[u32],
-    outputs: &[u32],
-    dffs: &[u32],
-    rams: &[u32],
-    levels: &[u32],
-) -> usize {
+fn put_staged(out: &mut [u8], at: usize, g: GraphTables, levels: &[u32]) -> usize {
     let mut rows = [0u32; 260];
     let mut handed = [0u32; 66560];
     let mut taken = [0u32; 67600];
     let mut work = [0u32; 16512];
-    let s = build_staged_aigs(
-        c,
-        drivers,
-        outputs,
-        dffs,
-        rams,
-        levels,
-        65,
-        &mut rows,
-        &mut handed,
-        &mut taken,
-        &mut work,
-    );
-    match s {
-        Staged::Stages(n, _, _) => put_stages(out, at, &rows, &handed, &taken, n),
-        Staged::Refused(k) => put_line(out, at, b"stages\trefused", &[k]),
+    match build_staged_aigs(g, levels, 65, &mut rows, &mut handed, &mut taken, &mut work) {
+        Ok(size) => put_stages(out, at, &rows, &handed, &taken, size.stages),
+        Err(refusal) => put_line(out, at, b"stages\trefused", &[refusal.number()]),
     }
 }
 
-// The part of each table that a graph uses, staged.
-fn put_used(
-    out: &mut [u8],
-    at: usize,
+// The part of each table that a graph uses.
+fn used<'a>(
     t: Tally,
-    drivers: &[u32],
-    outputs: &[u32],
-    dffs: &[u32],
-    rams: &[u32],
-    levels: &[u32],
-) -> usize {
-    let pins = t.pins as usize;
-    let os = t.outputs as usize;
-    let fs = t.dffs as usize;
-    let rs = t.rams as usize;
-    let d = least(3 * (pins + 1), drivers.len());
-    let o = least(os, outputs.len());
-    let f = least(3 * fs, dffs.len());
-    let r = least(123 * rs, rams.len());
-    put_staged(
-        out,
-        at,
-        graph_counts(t),
-        &drivers[..d],
-        &outputs[..o],
-        &dffs[..f],
-        &rams[..r],
-        levels,
-    )
-}
-
-fn given_rooms() -> Rooms {
-    Rooms {
-        pins: 1024,
-        outputs: 512,
-        dffs: 512,
-        rams: 16,
-        fanouts: 2048,
+    drivers: &'a [u32],
+    outputs: &'a [u32],
+    dffs: &'a [u32],
+    rams: &'a [u32],
+) -> GraphTables<'a> {
+    let counts = GraphCounts {
+        pins: t.pins,
+        outputs: t.outputs,
+        dffs: t.dffs,
+        rams: t.rams,
+    };
+    let ends = EndTables {
+        counts,
+        outputs: first(outputs, t.outputs as usize),
+        dffs: first(dffs, 3 * t.dffs as usize),
+        rams: first(rams, 123 * t.rams as usize),
+    };
+    GraphTables {
+        ends,
+        drivers: first(drivers, 3 * (t.pins as usize + 1)),
     }
 }
 
-// A graph that was built, and its stages.
-fn put_made(
-    out: &mut [u8],
-    t: Tally,
-    m: u32,
-    levels: &[u32],
-    drivers: &[u32],
-    outputs: &[u32],
-    dffs: &[u32],
-    rams: &[u32],
-    literals: &[u32],
-    fanout_starts: &[u32],
-    fanouts: &[u32],
-) -> usize {
-    if 1024 < t.pins {
-        return put_line(out, 0, b"refused", &[11]);
-    }
-    let p = put_pins(out, 0, t, m, literals, drivers);
-    let q = put_records(out, p, t, outputs, dffs, rams);
-    let r = put_fanouts(out, q, t, fanout_starts, fanouts);
-    put_used(out, r, t, drivers, outputs, dffs, rams, levels)
-}
+const ROOMS: Rooms = Rooms {
+    pins: 1024,
+    outputs: 512,
+    dffs: 512,
+    rams: 16,
+    fanouts: 2048,
+};
 
-fn literals_room() -> [u32; 512]
-    ensures { 512 ≡ length result }
-{
-    [0; 512]
-}
-
-// The graph of a netlist and its stages, or the number with which it is refused, in lent tables.
-fn put_lent(
-    out: &mut [u8],
-    c: NetlistCounts,
-    kinds: &[u32],
-    starts: &[u32],
-    list: &[u32],
-    pins: &[u32],
-    nets: &[u32],
-    levels: &[u32],
-    drivers: &mut [u32],
-    outputs: &mut [u32],
-    dffs: &mut [u32],
-    rams: &mut [u32],
-    literals: &mut [u32],
-    fanout_starts: &mut [u32],
-    fanouts: &mut [u32],
-    work: &mut [u32],
-) -> usize {
-    let m = c.pins;
-    let b = from_netlistdb(
-        c,
-        given_rooms(),
-        kinds,
-        starts,
-        list,
-        pins,
-        nets,
-        drivers,
-        outputs,
-        dffs,
-        rams,
-        literals,
-        fanout_starts,
-        fanouts,
-        work,
-    );
-    match b {
-        Built::Made(t) => put_made(
-            out,
-            t,
-            m,
-            levels,
-            drivers,
-            outputs,
-            dffs,
-            rams,
-            literals,
-            fanout_starts,
-            fanouts,
-        ),
-        Built::Refused(k) => put_line(out, 0, b"refused", &[k]),
-    }
-}
-
-// The same, in tables of the tool's rooms.
-fn put_built(
-    out: &mut [u8],
-    c: NetlistCounts,
-    kinds: &[u32],
-    starts: &[u32],
-    list: &[u32],
-    pins: &[u32],
-    nets: &[u32],
-    levels: &[u32],
-) -> usize {
+// The graph of a netlist and its stages, or the number with which it is refused.
+fn put_built(out: &mut [u8], c: NetlistCounts, n: NetlistTables, levels: &[u32]) -> usize {
     let mut drivers = [0u32; 3075];
     let mut outputs = [0u32; 512];
     let mut dffs = [0u32; 1536];
     let mut rams = [0u32; 1968];
-    let mut literals = literals_room();
+    let mut literals = [0u32; 512];
     let mut fanout_starts = [0u32; 1026];
     let mut fanouts = [0u32; 2048];
     let mut work = [0u32; 13312];
-    let m = c.pins as usize;
-    let k = least(m, 512);
-    put_lent(
-        out,
+    let k = (c.pins as usize).min(512);
+    let built = from_netlistdb(
         c,
-        kinds,
-        starts,
-        list,
-        pins,
-        nets,
-        levels,
+        ROOMS,
+        n,
         &mut drivers,
         &mut outputs,
         &mut dffs,
@@ -266,49 +136,23 @@ fn put_built(
         &mut fanout_starts,
         &mut fanouts,
         &mut work,
-    )
+    );
+    match built {
+        Ok(t) => {
+            if ROOMS.pins < t.pins {
+                return put_refusal(out, Refusal::Room);
+            }
+            let g = used(t, &drivers, &outputs, &dffs, &rams);
+            let p = put_pins(out, 0, t, c.pins, &literals[..k], g.drivers);
+            let q = put_records(out, p, g.ends);
+            let r = put_fanouts(out, q, t, &fanout_starts, &fanouts);
+            put_staged(out, r, g, levels)
+        }
+        Err(refusal) => put_refusal(out, refusal),
+    }
 }
 
-// The parts of the tables that a netlist uses, built. The cells' lists have n pins in all, and the text has `total` numbers.
-fn put_parts(
-    out: &mut [u8],
-    c: NetlistCounts,
-    n: usize,
-    total: usize,
-    kinds: &[u32],
-    begins: &[u32],
-    list: &[u32],
-    nets: &[u32],
-    numbers: &[u32],
-    starts: &[u32],
-) -> usize {
-    let cells = c.cells as usize;
-    let pins = c.pins as usize;
-    let count = c.nets as usize;
-    let k = least(cells, kinds.len());
-    let b = least(cells + 1, begins.len());
-    let l = least(n, list.len());
-    let e = least(count, nets.len());
-    let first = word_at(starts, cells) as usize;
-    let from = least(first, numbers.len());
-    let left = numbers.len() - from;
-    let m = least(5 * pins, left);
-    let to = least(total, numbers.len());
-    let last = word_at(starts, cells + pins + count) as usize;
-    let end = least(last, to);
-    put_built(
-        out,
-        c,
-        &kinds[..k],
-        &begins[..b],
-        &list[..l],
-        &numbers[from..from + m],
-        &nets[..e],
-        &numbers[end..to],
-    )
-}
-
-// The tables of a text that was read, built.
+// The tables of a text with `total` numbers that was read, built.
 fn put_tables(
     out: &mut [u8],
     c: NetlistCounts,
@@ -322,99 +166,94 @@ fn put_tables(
     let mut begins = [0u32; 513];
     let mut list = [0u32; 513];
     let mut nets = [0u32; 512];
-    let cells = c.cells;
-    let pins = c.pins;
-    fill_kinds(numbers, starts, cells, &mut kinds);
-    fill_starts(starts, cells + 1, &mut begins);
-    let n = fill_list(numbers, starts, cells, &mut list);
-    fill_nets(numbers, starts, cells + pins, c.nets, &mut nets);
-    put_parts(
-        out, c, n, total, &kinds, &begins, &list, &nets, numbers, starts,
-    )
+    fill_kinds(numbers, starts, c.cells, &mut kinds);
+    fill_starts(starts, c.cells + 1, &mut begins);
+    let listed = fill_list(numbers, starts, c.cells, &mut list);
+    fill_nets(numbers, starts, c.cells + c.pins, c.nets, &mut nets);
+    let cells = c.cells as usize;
+    let pins = c.pins as usize;
+    let count = c.nets as usize;
+    let pin_lines = word_at(starts, cells) as usize;
+    let split_lines = word_at(starts, cells + pins + count) as usize;
+    let n = NetlistTables {
+        kinds: first(&kinds, cells),
+        starts: first(&begins, cells + 1),
+        list: first(&list, listed),
+        pins: first(behind(numbers, pin_lines), 5 * pins),
+        nets: first(&nets, count),
+    };
+    put_built(out, c, n, behind(first(numbers, total), split_lines))
 }
 
 // The end of the line on a broken line: what is wrong with it, in words.
-fn put_words(out: &mut [u8], at: usize, why: u32) -> usize
-    ensures { Printed out.old at (wrong_bytes why) out.new result }
+fn put_words(out: &mut [u8], at: usize, fault: Fault) -> usize
+    ensures { Printed out.old at (wrong_bytes fault) out.new result }
 {
-    if why == 1 {
-        return put_bytes(out, at, b"\tnot cell, pin, net or split\n");
+    match fault {
+        Fault::NotRecord => put_bytes(out, at, b"\tnot cell, pin, net or split\n"),
+        Fault::OutOfOrder => put_bytes(out, at, b"\tout of order\n"),
+        Fault::NotNumber => put_bytes(out, at, b"\tnot a number\n"),
+        Fault::WrongNumbers => put_bytes(out, at, b"\twrong numbers\n"),
     }
-    if why == 2 {
-        return put_bytes(out, at, b"\tout of order\n");
-    }
-    if why == 3 {
-        return put_bytes(out, at, b"\tnot a number\n");
-    }
-    put_bytes(out, at, b"\twrong numbers\n")
-}
-
-fn low(n: usize) -> u32
-    requires { n < 4294967296 }
-    ensures { result ≡ n }
-{
-    n as u32
 }
 
 // The answer to a broken line.
-fn put_broken(out: &mut [u8], line: u32, why: u32) -> usize
-    ensures { Printed out.old 0 (broken_bytes line why) out.new result }
+fn put_broken(out: &mut [u8], line: u32, fault: Fault) -> usize
+    ensures { Printed out.old 0 (broken_bytes line fault) out.new result }
 {
     let a = put_bytes(out, 0, b"refused");
     let b = put_field(out, a, 17);
     let c = put_field(out, b, line);
-    put_words(out, c, why)
+    put_words(out, c, fault)
+}
+
+// A text has at most as many lines and numbers as bytes.
+fn within(n: usize) -> u32
+    ensures { result ≡ min n 262144 }
+{
+    n.min(262144) as u32
 }
 
 // The answer to a text that is not accepted.
-fn put_refused(out: &mut [u8], k: u32, line: u32, why: u32) -> usize
-    ensures { Printed out.old 0 (refused_bytes k line why) out.new result }
+fn put_refused(out: &mut [u8], refusal: TextRefusal) -> usize
+    ensures { Printed out.old 0 (refused_bytes refusal) out.new result }
 {
-    if k == 17 {
-        return put_broken(out, line, why);
+    match refusal {
+        TextRefusal::Bounds => put_refusal(out, Refusal::Bounds),
+        TextRefusal::Broken { line, fault } => put_broken(out, within(line), fault),
     }
-    put_line(out, 0, b"refused", &[k])
-}
-
-fn within(n: usize) -> u32 {
-    let m = least(n, 262144);
-    low(m)
 }
 
 fn netlist_counts(r: Reading) -> NetlistCounts
     requires { (r.cells ≤ 512) × ((r.pins ≤ 512) × (r.nets ≤ 512)) }
     ensures { (result.cells ≤ 512) × (result.pins ≤ 512) }
 {
-    let cells = low(r.cells);
-    let pins = low(r.pins);
-    let nets = low(r.nets);
-    NetlistCounts { cells, pins, nets }
-}
-
-fn numbers_room() -> [u32; 131072]
-    ensures { 131072 ≡ length result }
-{
-    [0; 131072]
-}
-
-fn starts_room() -> [u32; 65536]
-    ensures { 65536 ≡ length result }
-{
-    [0; 65536]
+    NetlistCounts {
+        cells: r.cells as u32,
+        pins: r.pins as u32,
+        nets: r.nets as u32,
+    }
 }
 
 // A text's answer.
 pub fn answer(text: &[u8], out: &mut [u8]) -> usize {
-    let mut numbers = numbers_room();
-    let mut starts = starts_room();
-    let r = read(text, &mut numbers, &mut starts);
-    let k = read_number(r);
-    let lines = r.lines;
-    let total = r.numbers;
-    if k != 0 {
-        return put_refused(out, k, within(lines), r.why);
+    let mut numbers = [0u32; 131072];
+    let mut starts = [0u32; 65536];
+    match accepted(read(text, &mut numbers, &mut starts)) {
+        Ok(r) => {
+            put_word(&mut starts, r.lines, within(r.numbers));
+            put_tables(out, netlist_counts(r), r.numbers, &numbers, &starts)
+        }
+        Err(refusal) => put_refused(out, refusal),
     }
-    put_word(&mut starts, lines, within(total));
-    let c = netlist_counts(r);
-    put_tables(out, c, total, &numbers, &starts)
+}
+
+// Prints a text's answer.
+pub fn print_answer(rt: &impl Print, text: &[u8]) -> io::Result<()> {
+    let mut out = [0; 262144];
+    let n = answer(text, &mut out);
+    if n <= out.len() {
+        rt.write_all(&out[..n])?;
+    }
+    Ok(())
 }

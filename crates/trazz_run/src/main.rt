@@ -1,18 +1,12 @@
 // Answers many texts, as the tool does. A line `---` parts one text from the next, and one answer from the next.
 #![tactic(auto)]
 
-ghost use Rattle.std.specs.Prelude.{◌≡◌, ◌≤◌, length, IfOk};
+ghost use Rattle.std.specs.Prelude.{◌≤◌, length, IfOk};
 
 use prints::read_full;
 use std::io;
-use texts::{is_word, until};
-use tool::answer;
-
-fn room() -> [u8; 262144]
-    ensures { 262144 ≡ length result }
-{
-    [0; 262144]
-}
+use texts::until;
+use tool::print_answer;
 
 // Where the text that begins at a place ends: at a line `---`, or at the end.
 fn text_end(all: &[u8], at: usize) -> usize
@@ -21,8 +15,8 @@ fn text_end(all: &[u8], at: usize) -> usize
 {
     let mut i = at;
     while i < all.len() {
-        let e = until(all, i, 10);
-        if is_word(&all[i..e], b"---") {
+        let e = until(all, i, b'\n');
+        if &all[i..e] == b"---".as_slice() {
             return i;
         }
         if e == all.len() {
@@ -31,20 +25,6 @@ fn text_end(all: &[u8], at: usize) -> usize
         i = e + 1;
     }
     i
-}
-
-// The first n bytes, on standard output.
-fn show(rt: &impl Print, out: &[u8], n: usize) -> io::Result<()> {
-    if n <= out.len() {
-        rt.write_all(&out[..n])?;
-    }
-    Ok(())
-}
-
-fn print_answer(rt: &impl Print, text: &[u8]) -> io::Result<()> {
-    let mut out = room();
-    let n = answer(text, &mut out);
-    show(rt, &out, n)
 }
 
 // Answers the text that begins at a place. Answers where it ends.
@@ -67,7 +47,7 @@ fn run(rt: &impl Print, all: &[u8]) -> io::Result<()> {
 }
 
 fn main(rt: HostRuntime) -> io::Result<()> {
-    let mut all = room();
+    let mut all = [0; 262144];
     let mut input = rt.reader();
     let n = read_full(&mut input, &mut all)?;
     run(&rt, &all[..n])

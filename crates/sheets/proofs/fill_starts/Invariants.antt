@@ -1,9 +1,5 @@
 use Rattle.sheets.proofs.Filling.{Starts}
-use Prim.Native.Nat.{◌-◌}
 use Rattle.sheets.proofs.fill_starts.Given as goal
 
 abbrev pub invariant-loop-i : goal.invariant-loop-i
 invariant-loop-i l = Starts l.ss l.n l.initial.out l.out l.i
-
-abbrev pub decreases-loop-i : goal.decreases-loop-i
-decreases-loop-i l = l.n - l.i

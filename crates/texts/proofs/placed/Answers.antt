@@ -1,11 +1,11 @@
 use Rattle.texts.proofs.Lines.{placed_not_number, placed_misshaped, placed_good}
 use Rattle.texts.proofs.placed.Goals as goal
 
-pub returns-then-not-t : goal.returns-then-not-t
-returns-then-not-t c = search placed_not_number
+pub returns-in-Err : goal.returns-in-Err
+returns-in-Err c = search (placed_not_number, c.in-Err.ensures)
 
 pub returns-then-not-is_shaped : goal.returns-then-not-is_shaped
-returns-then-not-is_shaped c = search placed_misshaped
+returns-then-not-is_shaped c = search (placed_misshaped, c.in-Ok.ensures)
 
-pub returns : goal.returns
-returns c = search placed_good
+pub returns-else-not-is_shaped : goal.returns-else-not-is_shaped
+returns-else-not-is_shaped c = search (placed_good, c.in-Ok.ensures)

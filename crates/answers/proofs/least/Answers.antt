@@ -1,8 +1,0 @@
-use Rattle.answers.proofs.Placing.{least_first, least_second}
-use Rattle.answers.proofs.least.Goals as goal
-
-pub returns-then-a-b : goal.returns-then-a-b
-returns-then-a-b c = search least_first
-
-pub returns : goal.returns
-returns c = search least_second
