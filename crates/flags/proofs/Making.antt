@@ -38,9 +38,6 @@ module _ (m at : ℕ) (w ws : List ℕ) (t : Tally) (q : ℕ) (e : Edge) (h : Fl
   long = drivers_long_lem ws t.pins
 
   module _ (edge : ℕ) (ee : edge ≡ edge_word e) where
-    pub place_in : 4 * m + 2 * q + edge < length w
-    place_in = omega (arith, lq, ee, edge_le e, h.inside, h.table.ready.wide)
-
     word : get_or w (4 * m + 2 * q + edge) 0 ≡ flag_word ds q e
     word = ap (λ (x : ℕ). get_or w (4 * m + 2 * q + x) 0) ee ∙ h.flags.words q e lq
 

@@ -88,9 +88,6 @@ module _ (m at : ℕ) (w ws : List ℕ) (t : Tally) (end : WalkEnd) where
       → Flagged m at (flag_at (drafted ws t) end) w ws t w' ws' r
   end_root q e w' ws' r s f = subst (λ (x : WalkEnd). Flagged m at (flag_at (drafted ws t) x) w ws t w' ws' r) (sym s) f
 
-pub end_port : (m : ℕ) (end : WalkEnd) (q : ℕ) (e : Edge) → PortWithin m end → end ≡ Root q e → q < m
-end_port m end q e h s = h.below q e s
-
 -- ---- a pin
 module _ (kinds starts list pins nets : List ℕ) (at : ℕ) (w ws : List ℕ) (t : Tally) (k p name : ℕ) (clock : Bool)
     (en : name ≡ get_or pins (5 * p + 1) 0) (ec : clock ≡ is_clock (kind_at k) name) where
@@ -146,9 +143,6 @@ passing_begins h m at l w ws t f = record { inside = omega arith; so_far = flagg
 
 module _ (h : List Driver → ℕ → List Driver) (m at : ℕ) (l w₀ ws₀ : List ℕ) (t₀ : Tally) (w ws : List ℕ) (t : Tally) (i : ℕ)
     (p : Passing h m at l w₀ ws₀ t₀ w ws t i) where
-  passing_state : Flagging m at w ws t
-  passing_state = (kept m at (over h (drafted ws₀ t₀) (take i l)) w₀ ws₀ t₀ w ws t p.so_far).state
-
   passing_ends : length l ≤ i → Flagged m at (over h (drafted ws₀ t₀) l) w₀ ws₀ t₀ w ws (Some t)
   passing_ends e = subst (λ (k : List ℕ). Flagged m at (over h (drafted ws₀ t₀) k) w₀ ws₀ t₀ w ws (Some t)) (take_all i l e) p.so_far
 
@@ -184,9 +178,6 @@ module _ (kinds starts list pins nets : List ℕ) (at : ℕ) (k a n : ℕ) where
     whole : length (take n (drop a list)) ≡ n
     unfolding part
     whole = part_length list a n sp.fits
-
-    pub list_state : Flagging (length list) at w ws t
-    list_state = passing_state h (length list) at (take n (drop a list)) w₀ ws₀ t₀ w ws t i p
 
     pub list_ends : n ≤ i → Flagged (length list) at (over (flag_if (tables kinds starts list pins nets) (kind_at k)) (drafted ws₀ t₀) (take n (drop a list))) w₀ ws₀ t₀ w ws (Some t)
     list_ends l = passing_ends h (length list) at (take n (drop a list)) w₀ ws₀ t₀ w ws t i p (omega (arith, l, whole))
@@ -252,9 +243,6 @@ module _ (kinds starts list pins nets : List ℕ) (at : ℕ) where
   module _ (w₀ ws₀ : List ℕ) (t₀ : Tally) (b : Blank (length list) at w₀ ws₀ t₀) (w ws : List ℕ) (t : Tally) (c : ℕ) (p : PassingCells w₀ ws₀ t₀ w ws t c) where
     abbrev g : List Driver → ℕ → List Driver
     g = flags_of (tables kinds starts list pins nets)
-
-    pub cells_state : Flagging (length list) at w ws t
-    cells_state = passing_state g (length list) at (upto (length kinds)) w₀ ws₀ t₀ w ws t c p
 
     final : over g (drafted ws₀ t₀) (upto (length kinds)) ≡ step1 (tables kinds starts list pins nets)
     final = ap (λ (ds : List Driver). over g ds (upto (length kinds))) b.alone ∙ all_flagged (tables kinds starts list pins nets)
