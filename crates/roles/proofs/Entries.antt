@@ -1,36 +1,20 @@
 -- The pins of a cell by their names, in the code's shape.
 use mathlib.Core.Path.{◌≡◌, refl, sym, ◌∙◌, ap, ap₂}
-use mathlib.Core.Bool.{Bool, true, false, ◌||◌}
+use mathlib.Core.Bool.{Bool, true, false}
 use mathlib.Core.List.{List, [], ◌∷◌}
 use Prim.Native.Nat.{ℕ, suc, ◌+◌, ◌-◌, ◌*◌, ◌<◌, ◌≤◌}
 use native.Mathlib.Numerals.{add-one}
 use native.Mathlib.Omega.{arith}
 use lib.ListN.{length, get_or, take, drop}
 use lib.Seq.{drop-cons, drop-length}
-use borrow.Author.Tests.{eq-eqb, ne_eqb}
-use Rattle.std.specs.Prelude.{◌==◌}
-use Rattle.laws.specs.Tests.{one}
+use Rattle.std.specs.Prelude.{Some, None}
 use Rattle.laws.specs.Lists.{keep}
 use Rattle.laws.specs.Words.{part}
-use Rattle.laws.proofs.Tests.{by_test}
 use Rattle.laws.proofs.Words.{part_length, part_at}
-use Rattle.roles.specs.declared.Entry.TheVariants.{Pin, Absent}
 use Rattle.roles.specs.Reading.{Held, Laid, has_name, either_in, entry_of}
 
--- ---- one of two names
-module _ (x a b : ℕ) where
-  pub first_name : x ≡ a → 1 ≡ one ((x == a) || (x == b))
-  first_name e = rw (eq-eqb x a e)
-
-  module _ (m : x ≡ a → ⊥) where
-    pub second_name : x ≡ b → 1 ≡ one ((x == a) || (x == b))
-    second_name e = rw (ne_eqb x a m, eq-eqb x b e)
-
-    pub neither_name : (x ≡ b → ⊥) → 0 ≡ one ((x == a) || (x == b))
-    neither_name m' = rw (ne_eqb x a m, ne_eqb x b m')
-
 -- ---- entries
-pub entry_first : (x : ℕ) (l : List ℕ) → entry_of (x ∷ l) 0 ≡ Pin x
+pub entry_first : (x : ℕ) (l : List ℕ) → entry_of (x ∷ l) 0 ≡ Some x
 unfolding entry_of
 entry_first x l = refl
 
@@ -38,7 +22,7 @@ pub entry_next : (x : ℕ) (l : List ℕ) (k : ℕ) → entry_of (x ∷ l) (suc 
 unfolding entry_of
 entry_next x l k = refl
 
-pub entry_none : (k : ℕ) → entry_of [] k ≡ Absent
+pub entry_none : (k : ℕ) → entry_of [] k ≡ None
 unfolding entry_of
 entry_none k = refl
 
@@ -64,7 +48,7 @@ module _ (list pins : List ℕ) (at n a b k i left : ℕ) (h : Held list pins at
   unfolding part
   whole_length = part_length list at n h.fits
 
-  pub none_left : n ≤ i → Absent ≡ entry_of (either_in pins a b (take n (drop at list))) k
+  pub none_left : n ≤ i → None ≡ entry_of (either_in pins a b (take n (drop at list))) k
   none_left l =
       let e : i ≡ length whole = omega (arith, s.inside, l, whole_length) in
       sym (entry_none left) ∙ ap (λ (t : List ℕ). entry_of (either_in pins a b t) left) (sym (drop-length whole) ∙ ap (λ (j : ℕ). drop j whole) (sym e)) ∙ s.rest
@@ -86,33 +70,33 @@ module _ (list pins : List ℕ) (at n a b k i left : ℕ) (h : Held list pins at
     pub entry_held : 5 * get_or list (at + i) 0 + 4 < length pins
     entry_held = h.entries i l
 
-    module _ (hit : ℕ) (e : hit ≡ one (has_name pins a b (get_or list (at + i) 0))) where
-      pub entry_found : left < hit → Pin (get_or list (at + i) 0) ≡ entry_of (either_in pins a b (take n (drop at list))) k
-      entry_found m = by_test (has_name pins a b here)
-          (λ t. let z : left ≡ 0 = omega (arith, e ∙ ap one t, m) in
+    module _ (t : has_name pins a b (get_or list (at + i) 0) ≡ true) where
+      pub entry_found : left ≡ 0 → Some (get_or list (at + i) 0) ≡ entry_of (either_in pins a b (take n (drop at list))) k
+      entry_found z =
           sym (entry_first here others)
           ∙ ap (entry_of (here ∷ others)) (sym z)
           ∙ ap (λ (t' : List ℕ). entry_of t' left) (sym (kept (has_name pins a b) here (drop (i + 1) whole) t))
-          ∙ unfolded)
-          (λ f. absurd (omega (arith, e ∙ ap one f, m)))
+          ∙ unfolded
 
-      passes : (c : Bool) → has_name pins a b here ≡ c → hit ≡ one c → hit ≤ left → (j : ℕ) → j ≡ left - hit
-          → entry_of (either_in pins a b (drop (i + 1) whole)) j ≡ entry_of (either_in pins a b (here ∷ drop (i + 1) whole)) left
-      passes true t eh m j ej = let z : left ≡ suc j = omega (arith, eh, m, ej) in
-          sym (entry_next here others j) ∙ ap (entry_of (here ∷ others)) (sym z) ∙ ap (λ (t' : List ℕ). entry_of t' left) (sym (kept (has_name pins a b) here (drop (i + 1) whole) t))
-      passes false t eh m j ej = let z : j ≡ left = omega (arith, eh, ej) in ap (entry_of others) z ∙ ap (λ (t' : List ℕ). entry_of t' left) (sym (passed_by (has_name pins a b) here (drop (i + 1) whole) t))
-
-      pub entry_passed : hit ≤ left → Searching list pins at n a b k (i + 1) (left - hit)
+      pub entry_passed : (left ≡ 0 → ⊥) → Searching list pins at n a b k (i + 1) (left - 1)
       entry_passed m = record {
         inside = omega arith;
-        rest = passes (has_name pins a b here) refl e m (left - hit) refl ∙ unfolded;
+        rest =
+            let z : left ≡ suc (left - 1) = omega (arith, m) in
+            sym (entry_next here others (left - 1))
+            ∙ ap (entry_of (here ∷ others)) (sym z)
+            ∙ ap (λ (t' : List ℕ). entry_of t' left) (sym (kept (has_name pins a b) here (drop (i + 1) whole) t))
+            ∙ unfolded;
       }
+
+    pub entry_skipped : has_name pins a b (get_or list (at + i) 0) ≡ false → Searching list pins at n a b k (i + 1) left
+    entry_skipped f = record {
+      inside = omega arith;
+      rest = ap (λ (t' : List ℕ). entry_of t' left) (sym (passed_by (has_name pins a b) here (drop (i + 1) whole) f)) ∙ unfolded;
+    }
 
 -- ---- the list of a cell
 module _ (starts list pins : List ℕ) (c : ℕ) (w : Laid starts list pins) (l : c + 1 < length starts) where
-  pub start_long : c < length starts
-  start_long = omega arith
-
   pub end_behind : get_or starts c 0 ≤ get_or starts (c + 1) 0
   end_behind = w.rise c l
 

@@ -1,11 +1,9 @@
 -- The netlist of lent tables, what it is for them to fit, and what is read of them by value.
-use Rattle.std.specs.Prelude.{◌≡◌, Bool, ◌||◌, List, [], ◌∷◌, ℕ, zero, suc, ◌+◌, ◌-◌, ◌*◌, ◌<◌, ◌≤◌, length, get_or, take, drop, ◌==◌}
+use Rattle.std.specs.Prelude.{Option, Some, None, ◌≡◌, Bool, ◌||◌, List, [], ◌∷◌, ℕ, zero, suc, ◌+◌, ◌-◌, ◌*◌, ◌<◌, ◌≤◌, length, get_or, take, drop, ◌==◌}
 use Rattle.laws.specs.Lists.{keep}
 use Rattle.rules.specs.Netlist.{Netlist, Kind, top, and2, inv, buf, dff, clock_gate, ram, unfit, kind_table}
 use Rattle.rules.specs.Build.{Role, tied, wire, out_port, in_port, and_out, inv_out, buf_out, gate_out, dff_out, ram_out, nothing}
 use Rattle.rules.specs.Refusals.{tables_number}
-use Rattle.roles.specs.declared.Entry.{Entry}
-use Rattle.roles.specs.declared.Entry.TheVariants.{Pin, Absent}
 use Rattle.roles.specs.declared.PinRole.{PinRole}
 use Rattle.roles.specs.declared.PinRole.TheVariants.{Tied, Wire, OutPort, InPort, AndOut, InvOut, BufOut, GateOut, DffOut, RamOut, Nothing}
 
@@ -41,9 +39,9 @@ abbrev pub either_in : List ℕ → ℕ → ℕ → List ℕ → List ℕ
 either_in pins a b l = keep (has_name pins a b) l
 
 -- the entry at a place, by value
-unfoldable pub entry_of : List ℕ → ℕ → Entry
-entry_of [] k = Absent
-entry_of (x ∷ l) zero = Pin x
+unfoldable pub entry_of : List ℕ → ℕ → Option ℕ
+entry_of [] k = None
+entry_of (x ∷ l) zero = Some x
 entry_of (x ∷ l) (suc k) = entry_of l k
 
 -- ---- roles by value

@@ -1,23 +1,17 @@
 // A netlist read off its words: what a pin is, the pins of a cell by their names, and where a visit goes.
 #![tactic(auto)]
 
-ghost use Rattle.std.specs.Prelude.{◌≡◌, ◌||◌, [], ◌∷◌, ℕ, ◌+◌, ◌*◌, ◌<◌, ◌≤◌, length, get_or, take, drop, ◌==◌};
-ghost use Rattle.laws.specs.Tests.{one};
-ghost use Rattle.rules.specs.Netlist.{named, pin_named};
+ghost use Rattle.std.specs.Prelude.{◌≡◌, [], ◌∷◌, ℕ, ◌+◌, ◌*◌, ◌<◌, ◌≤◌, length, get_or, take, drop};
+ghost use Rattle.rules.specs.Netlist.{pin_named};
 ghost use Rattle.rules.specs.Build.{in_role, out_role, role, next};
-ghost use Rattle.roles.specs.Reading.{tables, Fits, Laid, Held, entry_of, either_in, cell_pins, kind_at, and_as, says};
+ghost use Rattle.rules.specs.Tables.{netlist_in};
+ghost use Rattle.roles.specs.Reading.{tables, Fits, Laid, Held, entry_of, has_name, either_in, cell_pins, kind_at, and_as, says};
 
 use kinds::kind_word;
-
-// An entry of a list of pins, or none where the list is shorter.
-#[derive(Drop)]
-pub enum Entry {
-    Pin(u32),
-    Absent,
-}
+use rules::NetlistTables;
 
 // What a pin is, as the visits of step 2 see it.
-#[derive(Drop)]
+#[derive(Clone, Copy)]
 pub enum PinRole {
     Tied(bool),
     Wire(u32),
@@ -32,39 +26,41 @@ pub enum PinRole {
     Nothing,
 }
 
-// 1 where a pin has one of two names, else 0: what the count of such pins grows by.
-fn has_name(pins: &[u32], p: u32, a: u32, b: u32) -> usize
+// Whether a pin has one of two names.
+fn has_name(pins: &[u32], p: u32, a: u32, b: u32) -> bool
     requires { 5 * p + 4 < length pins.now }
-    ensures { result ≡ one ((get_or pins.now (5 * p + 1) 0 == a) || (get_or pins.now (5 * p + 1) 0 == b)) }
+    ensures { result ≡ has_name pins.now a b p }
 {
-    let row = 5 * (p as usize);
-    let name = pins[row + 1];
-    if name == a {
-        return 1;
-    }
-    if name == b {
-        return 1;
-    }
-    0
+    let name = pin_word(pins, p, 1);
+    name == a || name == b
 }
 
 // Of n entries from a place on, the one at k, counted from 0, among those with one of two names.
-fn entry_named(list: &[u32], pins: &[u32], at: usize, n: usize, a: u32, b: u32, k: usize) -> Entry
+fn entry_named(
+    list: &[u32],
+    pins: &[u32],
+    at: usize,
+    n: usize,
+    a: u32,
+    b: u32,
+    k: usize,
+) -> Option<u32>
     requires { Held list.now pins.now at n }
     ensures { result ≡ entry_of (either_in pins.now a b (take n (drop at list.now))) k }
 {
-    let mut i = 0;
     let mut left = k;
-    while i < n {
+    for i in 0..n {
         let p = list[at + i];
         let hit = has_name(pins, p, a, b);
-        if left < hit {
-            return Entry::Pin(p);
+        if !hit {
+            continue;
         }
-        left -= hit;
-        i += 1;
+        if left == 0 {
+            return Some(p);
+        }
+        left -= 1;
     }
-    Entry::Absent
+    None
 }
 
 // Of a cell's pins in list order, the one at k among those with one of two names.
@@ -76,7 +72,7 @@ pub fn cell_entry(
     a: u32,
     b: u32,
     k: usize,
-) -> Entry
+) -> Option<u32>
     requires laid { Laid starts.now list.now pins.now }
     requires cell_in_bounds { cell + 1 < length starts.now }
     ensures { result ≡ entry_of (either_in pins.now a b (cell_pins starts.now list.now cell)) k }
@@ -95,10 +91,7 @@ pub fn pin_named(starts: &[u32], list: &[u32], pins: &[u32], cell: u32, name: u3
     ensures { result ≡ pin_named (tables [] starts.now list.now pins.now []) cell name }
 {
     let found = cell_entry(starts, list, pins, cell, name, name, 0);
-    match found {
-        Entry::Pin(p) => p,
-        Entry::Absent => 0,
-    }
+    found.unwrap_or(0)
 }
 
 // Word i of a pin: its cell, name, bit, direction and net.
@@ -114,17 +107,12 @@ pub fn pin_word(pins: &[u32], p: u32, i: usize) -> u32
 fn in_role(top: bool, driver: u32) -> PinRole
     ensures { says result ≡ in_role top driver }
 {
-    if driver == 0 {
-        return PinRole::Tied(false);
+    match driver {
+        0 => PinRole::Tied(false),
+        1 => PinRole::Tied(true),
+        _ if top => PinRole::OutPort(driver - 2),
+        _ => PinRole::Wire(driver - 2),
     }
-    if driver == 1 {
-        return PinRole::Tied(true);
-    }
-    let q = driver - 2;
-    if top {
-        return PinRole::OutPort(q);
-    }
-    PinRole::Wire(q)
 }
 
 // The output of an AND2, with the inversion digits of its kind.
@@ -141,117 +129,87 @@ fn and_role(kind: u32, a: u32, b: u32) -> PinRole
 }
 
 // An out pin, by the kind of its cell.
-fn out_role(kinds: &[u32], starts: &[u32], list: &[u32], pins: &[u32], cell: u32, p: u32) -> PinRole
-    requires laid { Laid starts.now list.now pins.now }
-    requires starts_len { length starts.now ≡ length kinds.now + 1 }
-    requires cell_in_bounds { cell < length kinds.now }
-    requires p_in_bounds { 5 * p + 4 < length pins.now }
-    ensures { says result ≡ out_role (tables kinds.now starts.now list.now pins.now []) cell p (kind_at (get_or kinds.now cell 0)) }
+fn out_role(n: NetlistTables, cell: u32, p: u32) -> PinRole
+    requires laid { Laid n.starts.now n.list.now n.pins.now }
+    requires starts_len { length n.starts.now ≡ length n.kinds.now + 1 }
+    requires cell_in_bounds { cell < length n.kinds.now }
+    requires p_in_bounds { 5 * p + 4 < length n.pins.now }
+    ensures { says result ≡ out_role (netlist_in n.entry) cell p (kind_at (get_or n.entry.kinds.now cell 0)) }
 {
-    let kind = kinds[cell as usize];
-    if kind == 0 {
-        return PinRole::InPort;
+    let kind = n.kinds[cell as usize];
+    match kind {
+        0 => PinRole::InPort,
+        1..=5 => {
+            let a = pin_named(n.starts, n.list, n.pins, cell, 1);
+            let b = pin_named(n.starts, n.list, n.pins, cell, 2);
+            and_role(kind, a, b)
+        }
+        6 => PinRole::InvOut(pin_named(n.starts, n.list, n.pins, cell, 1)),
+        7 => PinRole::BufOut(pin_named(n.starts, n.list, n.pins, cell, 1)),
+        8 | 9 => PinRole::DffOut(cell),
+        10 => {
+            let clock = pin_named(n.starts, n.list, n.pins, cell, 8);
+            let enable = pin_named(n.starts, n.list, n.pins, cell, 9);
+            PinRole::GateOut(clock, enable)
+        }
+        11 => {
+            let bit = pin_word(n.pins, p, 2);
+            PinRole::RamOut(cell, bit)
+        }
+        _ => PinRole::Nothing,
     }
-    if kind < 6 {
-        let a = pin_named(starts, list, pins, cell, 1);
-        let b = pin_named(starts, list, pins, cell, 2);
-        return and_role(kind, a, b);
-    }
-    if kind == 6 {
-        let a = pin_named(starts, list, pins, cell, 1);
-        return PinRole::InvOut(a);
-    }
-    if kind == 7 {
-        let a = pin_named(starts, list, pins, cell, 1);
-        return PinRole::BufOut(a);
-    }
-    if kind < 10 {
-        return PinRole::DffOut(cell);
-    }
-    if kind == 10 {
-        let clock = pin_named(starts, list, pins, cell, 8);
-        let enable = pin_named(starts, list, pins, cell, 9);
-        return PinRole::GateOut(clock, enable);
-    }
-    if kind == 11 {
-        let bit = pin_word(pins, p, 2);
-        return PinRole::RamOut(cell, bit);
-    }
-    PinRole::Nothing
 }
 
 // What a pin is.
-pub fn role(
-    kinds: &[u32],
-    starts: &[u32],
-    list: &[u32],
-    pins: &[u32],
-    nets: &[u32],
-    p: u32,
-) -> PinRole
-    requires fits { Fits (tables kinds.now starts.now list.now pins.now nets.now) }
-    requires p_in_bounds { p < length list.now }
-    ensures { says result ≡ role (tables kinds.now starts.now list.now pins.now nets.now) p }
+pub fn role(n: NetlistTables, p: u32) -> PinRole
+    requires fits { Fits (netlist_in n) }
+    requires p_in_bounds { p < length n.list.now }
+    ensures { says result ≡ role (netlist_in n.entry) p }
 {
-    let cell = pin_word(pins, p, 0);
-    let direction = pin_word(pins, p, 3);
+    let cell = pin_word(n.pins, p, 0);
+    let direction = pin_word(n.pins, p, 3);
     if direction == 1 {
-        return out_role(kinds, starts, list, pins, cell, p);
+        return out_role(n, cell, p);
     }
-    let net = pin_word(pins, p, 4);
-    let driver = nets[net as usize];
+    let net = pin_word(n.pins, p, 4);
+    let driver = n.nets[net as usize];
     in_role(cell == 0, driver)
 }
 
 // The entry at k of a list of one pin.
-fn one_entry(x: u32, k: usize) -> Entry
+fn one_entry(x: u32, k: usize) -> Option<u32>
     ensures { result ≡ entry_of (x ∷ []) k }
 {
-    if k == 0 {
-        return Entry::Pin(x);
+    match k {
+        0 => Some(x),
+        _ => None,
     }
-    Entry::Absent
 }
 
 // The entry at k of a list of two pins.
-fn two_entries(x: u32, y: u32, k: usize) -> Entry
+fn two_entries(x: u32, y: u32, k: usize) -> Option<u32>
     ensures { result ≡ entry_of (x ∷ y ∷ []) k }
 {
-    if k == 0 {
-        return Entry::Pin(x);
+    match k {
+        0 => Some(x),
+        1 => Some(y),
+        _ => None,
     }
-    if k == 1 {
-        return Entry::Pin(y);
-    }
-    Entry::Absent
 }
 
 // Where the visit of a pin goes: the place at k, counted from 0.
-pub fn visit_at(
-    kinds: &[u32],
-    starts: &[u32],
-    list: &[u32],
-    pins: &[u32],
-    nets: &[u32],
-    p: u32,
-    k: usize,
-) -> Entry
-    requires fits { Fits (tables kinds.now starts.now list.now pins.now nets.now) }
-    requires p_in_bounds { p < length list.now }
-    ensures { result ≡ entry_of (next (tables kinds.now starts.now list.now pins.now nets.now) p) k }
+pub fn visit_at(n: NetlistTables, p: u32, k: usize) -> Option<u32>
+    requires fits { Fits (netlist_in n) }
+    requires p_in_bounds { p < length n.list.now }
+    ensures { result ≡ entry_of (next (netlist_in n.entry) p) k }
 {
-    let what = role(kinds, starts, list, pins, nets, p);
+    let what = role(n, p);
     match what {
-        PinRole::Tied(_) => Entry::Absent,
-        PinRole::Wire(q) => one_entry(q, k),
-        PinRole::OutPort(q) => one_entry(q, k),
-        PinRole::InPort => Entry::Absent,
+        PinRole::Wire(q) | PinRole::OutPort(q) => one_entry(q, k),
+        PinRole::InvOut(a) | PinRole::BufOut(a) => one_entry(a, k),
         PinRole::AndOut(_, _, _, a, b) => two_entries(a, b, k),
-        PinRole::InvOut(a) => one_entry(a, k),
-        PinRole::BufOut(a) => one_entry(a, k),
         PinRole::GateOut(clock, enable) => two_entries(clock, enable, k),
-        PinRole::DffOut(cell) => cell_entry(starts, list, pins, cell, 6, 7, k),
-        PinRole::RamOut(_, _) => Entry::Absent,
-        PinRole::Nothing => Entry::Absent,
+        PinRole::DffOut(cell) => cell_entry(n.starts, n.list, n.pins, cell, 6, 7, k),
+        PinRole::Tied(_) | PinRole::InPort | PinRole::RamOut(_, _) | PinRole::Nothing => None,
     }
 }

@@ -1,8 +1,8 @@
 use Rattle.roles.proofs.Roles.{one_first, one_none}
 use Rattle.roles.proofs.one_entry.Goals as goal
 
-pub returns-then-k-eq0 : goal.returns-then-k-eq0
-returns-then-k-eq0 c = search one_first
+pub returns-in-0 : goal.returns-in-0
+returns-in-0 c = search one_first
 
-pub returns : goal.returns
-returns c = search one_none
+pub returns-in_default : goal.returns-in_default
+returns-in_default c = search one_none

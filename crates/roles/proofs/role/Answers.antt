@@ -12,5 +12,5 @@ returns-then-direction-eq1 c = search role_out
 pub returns : goal.returns
 returns c = search role_in
 
-pub bounds-nets-net : goal.bounds-nets-net
-bounds-nets-net c = search net_inside
+pub bounds-n-net : goal.bounds-n-net
+bounds-n-net c = search net_inside

@@ -1,11 +1,11 @@
 use Rattle.roles.proofs.Roles.{two_first, two_second, two_none}
 use Rattle.roles.proofs.two_entries.Goals as goal
 
-pub returns-then-k-eq0 : goal.returns-then-k-eq0
-returns-then-k-eq0 c = search two_first
+pub returns-in-0 : goal.returns-in-0
+returns-in-0 c = search two_first
 
-pub returns-then-k-eq1 : goal.returns-then-k-eq1
-returns-then-k-eq1 c = search two_second
+pub returns-in-1 : goal.returns-in-1
+returns-in-1 c = search two_second
 
-pub returns : goal.returns
-returns c = search two_none
+pub returns-in_default : goal.returns-in_default
+returns-in_default c = search two_none
