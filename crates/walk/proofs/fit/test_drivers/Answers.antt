@@ -1,6 +1,6 @@
 use Rattle.walk.proofs.Numbers.{number_pins, number_counts, number_long, number_lengths, number_drivers, number-none}
 use borrow.Author.Tests.{not-true, not-false}
-use Rattle.walk.proofs.fit.drivers_number.Goals as goal
+use Rattle.walk.proofs.fit.test_drivers.Goals as goal
 
 pub returns-then-pins-gt16777215 : goal.returns-then-pins-gt16777215
 returns-then-pins-gt16777215 c = search number_pins

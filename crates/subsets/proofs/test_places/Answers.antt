@@ -1,7 +1,7 @@
 use Rattle.subsets.proofs.Places.{lead_within, leading_le, places_15, places_15_order, places_11, places_11_taken, places_0}
 use borrow.Author.Tests.{not-true, not-false}
 use native.Mathlib.Omega.{arith}
-use Rattle.subsets.proofs.places_number.Goals as goal
+use Rattle.subsets.proofs.test_places.Goals as goal
 
 pub overflow_sub-rest : goal.overflow_sub-rest
 overflow_sub-rest c = omega (arith, leading_le c.args.handed c.args.is.now)

@@ -1,6 +1,6 @@
 use Rattle.subsets.proofs.Full.{full_1, full_1_room, full_11, full_0}
 use borrow.Author.Tests.{not-true, not-false}
-use Rattle.subsets.proofs.full_number.Goals as goal
+use Rattle.subsets.proofs.test_full.Goals as goal
 
 pub returns-then-not-counts_fit : goal.returns-then-not-counts_fit
 returns-then-not-counts_fit c = search (full_1, not-true)
