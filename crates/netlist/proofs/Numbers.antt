@@ -6,13 +6,15 @@ use Prim.Native.Nat.{ℕ}
 use native.Mathlib.Omega.{arith}
 use lib.ListN.{length, get_or}
 use borrow.Author.Tests.{ltb-true, leb-true}
-use Rattle.std.specs.Prelude.{◌==◌}
+use Rattle.std.specs.Prelude.{Ok, Err, ◌==◌}
 use Rattle.laws.specs.Tests.{◌<?◌, ◌≤?◌, same}
 use Rattle.laws.specs.Lists.{every, upto}
 use Rattle.laws.proofs.Tests.{and_l, and_r}
 use Rattle.laws.proofs.Ranges.{of_upto}
 use Rattle.rules.specs.Netlist.{kinds_fit, no_latch, pins_fit}
 use Rattle.rules.specs.Refusals.{tables_number}
+use Rattle.rules.specs.Answers.{done_of}
+use Rattle.rules.specs.declared.Refusal.TheVariants.{Kinds, Latch, PinLists, Nets}
 use Rattle.pins.specs.Words.{pin_at, ranged}
 use Rattle.lists.specs.Parts.{laid, own, cell_list, Kinded}
 use Rattle.nets.specs.Driven.{net_driven, driving, Netted}
@@ -48,21 +50,21 @@ now_netted kinds starts list pins nets work third e t g = record {
 }
 
 module _ (kinds starts list pins nets : List ℕ) (first : Bool) (e3 : first ≡ kinds_fit (with_kinds kinds)) where
-  pub give_3 : first ≡ false → 3 ≡ tables_number (tables kinds starts list pins nets)
+  pub give_3 : first ≡ false → Err Kinds ≡ done_of (tables_number (tables kinds starts list pins nets))
   give_3 f = rw (sym e3 ∙ f)
 
   module _ (t3 : first ≡ true) (second : Bool) (e4 : second ≡ no_latch (with_kinds kinds)) where
-    pub give_4 : second ≡ false → 4 ≡ tables_number (tables kinds starts list pins nets)
+    pub give_4 : second ≡ false → Err Latch ≡ done_of (tables_number (tables kinds starts list pins nets))
     give_4 f = rw (sym e3 ∙ t3, sym e4 ∙ f)
 
     module _ (t4 : second ≡ true) (third : Bool) (e5 : third ≡ pins_told kinds starts list pins (length nets)) where
-      pub give_5 : third ≡ false → 5 ≡ tables_number (tables kinds starts list pins nets)
+      pub give_5 : third ≡ false → Err PinLists ≡ done_of (tables_number (tables kinds starts list pins nets))
       give_5 f = rw (sym e3 ∙ t3, sym e4 ∙ t4, sym (told_fits kinds starts list pins nets) ∙ sym e5 ∙ f)
 
       module _ (t5 : third ≡ true) (fourth : Bool)
           (e6 : fourth ≡ (every (net_driven pins (length list) nets) (upto (length nets)) && every (driving pins nets) (upto (length list)))) where
-        pub give_6 : fourth ≡ false → 6 ≡ tables_number (tables kinds starts list pins nets)
+        pub give_6 : fourth ≡ false → Err Nets ≡ done_of (tables_number (tables kinds starts list pins nets))
         give_6 f = rw (sym e3 ∙ t3, sym e4 ∙ t4, sym (told_fits kinds starts list pins nets) ∙ sym e5 ∙ t5, sym e6 ∙ f)
 
-        pub give_0 : fourth ≡ true → 0 ≡ tables_number (tables kinds starts list pins nets)
+        pub give_0 : fourth ≡ true → Ok tt ≡ done_of (tables_number (tables kinds starts list pins nets))
         give_0 t = rw (sym e3 ∙ t3, sym e4 ∙ t4, sym (told_fits kinds starts list pins nets) ∙ sym e5 ∙ t5, sym e6 ∙ t)
