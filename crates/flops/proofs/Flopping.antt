@@ -1,5 +1,5 @@
 -- A flip-flop in step 3, in the code's shape.
-use mathlib.Core.Path.{◌≡◌, refl, sym, ap, ap₂, subst, ◌∙◌}
+use mathlib.Core.Path.{◌≡◌, refl, ap, ap₂, subst, ◌∙◌}
 use mathlib.Core.Bool.{true}
 use mathlib.Core.List.{List, [], ◌∷◌}
 use Prim.Native.Nat.{ℕ, suc, ◌+◌, ◌-◌, ◌*◌, ◌<◌, ◌≤◌}
@@ -7,7 +7,7 @@ use native.Mathlib.Omega.{arith}
 use lib.ListN.{length, get_or, set}
 use Rattle.std.specs.Prelude.{Option, Some, None, ◌==◌}
 use Rattle.laws.specs.Lists.{count, first_or}
-use Rattle.laws.proofs.Bags.{is_member, here}
+use Rattle.laws.proofs.Bags.{is_member, first_same}
 use Rattle.laws.proofs.Indices.{place, place_at}
 use Rattle.rules.specs.declared.Driver.{Driver}
 use Rattle.rules.specs.declared.Literal.{Literal}
@@ -16,17 +16,17 @@ use Rattle.rules.specs.Netlist.{Netlist, named, name_of, dff}
 use Rattle.rules.specs.Graph.{Made, and_of, or_not}
 use Rattle.rules.specs.Tables.{record_words}
 use Rattle.rules.specs.Build.{is_clock, step2}
-use Rattle.rules.proofs.Tables.{clash, in_keep}
+use Rattle.rules.proofs.Tables.{in_keep}
 use Rattle.builds.proofs.Growing.{Keeps, keeps_trans}
 use Rattle.builds.proofs.Ands.{and_keeps, or_grows}
 use Rattle.builds.proofs.Rows.{dff_has}
 use Rattle.words.proofs.Tables.{Writing, writing_begins, writing_goes_on}
 use Rattle.roles.specs.Reading.{either_in, cell_pins, entry_of, kind_at}
 use Rattle.roles.proofs.Fitting.{laid}
-use Rattle.roles.proofs.Roles.{either_same}
 use Rattle.drafts.specs.declared.Added.{Added}
 use Rattle.drafts.specs.Table.{Table, drafted, Extends}
 use Rattle.drafts.specs.Layout.{number_in}
+use Rattle.literals.specs.Settled.{word_at}
 use Rattle.activity.specs.Traced.{lits, Going, start_at, entry_traced}
 use Rattle.drafts.proofs.Steps.{Extended, extended, longer_full}
 use Rattle.activity.proofs.Composing.{goes_on, onward}
@@ -37,36 +37,9 @@ use Rattle.flops.specs.Flopped.{Known, Both, flop_both, second_of, Doubles, flop
 pub known : (n : Netlist) (at : ℕ) (w ws : List ℕ) (t : Tally) → Going n at w ws t → Known n w
 known n at w ws t g = record { accepted = g.grounded.accepted; fits = g.grounded.fits; wide = omega (arith, g.grounded.below, g.grounded.inside); written = g.grounded.written }
 
-pub first_entry : (l : List ℕ) (p : ℕ) → entry_of l 0 ≡ Some p → (d : ℕ) (f : ℕ → ℕ) → (0 < count p l) × (f p ≡ first_or d f l)
-unfolding entry_of
-first_entry [] p e d f = clash (cc)
-first_entry (x ∷ l) p e d f = let q : p ≡ x = cc in (subst (λ (y : ℕ). 0 < count y (x ∷ l)) (sym q) (here x l), ap f q)
-
-pub no_entry : (l : List ℕ) → entry_of l 0 ≡ None → (d : ℕ) (f : ℕ → ℕ) → d ≡ first_or d f l
-unfolding entry_of
-no_entry [] e d f = refl
-no_entry (x ∷ l) e d f = clash (cc)
-
-module _ (n : Netlist) (w : List ℕ) (c name absent : ℕ) (found : Option ℕ) (h : found ≡ entry_of (either_in n.pins name name (cell_pins n.starts n.list c)) 0)
-    (k : Known n w) (l : c < length n.kinds) where
-  by_name_lem : found ≡ entry_of (named n c name) 0
-  by_name_lem = h ∙ ap (λ (x : List ℕ). entry_of x 0) (either_same n.pins name (cell_pins n.starts n.list c))
-
-  module _ (p : ℕ) (e : found ≡ Some p) where
-    both_told : (0 < count p (named n c name)) × (lits n p ≡ first_or absent (lits n) (named n c name))
-    both_told = first_entry (named n c name) p (sym by_name_lem ∙ e) absent (lits n)
-
-    inside : p < length n.list
-    inside = in_keep n k.accepted.tables (λ q. name_of n q == name) c p l both_told.0
-
-    pub named_place : 7 * length n.list + p < length w
-    named_place = omega (arith, inside, k.wide)
-
-    pub named-told : get_or w (7 * length n.list + p) 0 ≡ first_or absent (lits n) (named n c name)
-    named-told = k.written.lits p inside ∙ both_told.1
-
-  pub named_none : found ≡ None → absent ≡ first_or absent (lits n) (named n c name)
-  named_none e = no_entry (named n c name) (sym by_name_lem ∙ e) absent (lits n)
+-- the literal of a pin by its name, as step 2 has made it
+pub named_known : (n : Netlist) (w : List ℕ) (c name absent : ℕ) → Known n w → c < length n.kinds → first_or absent (word_at w (length n.list)) (named n c name) ≡ first_or absent (lits n) (named n c name)
+named_known n w c name absent k l = first_same (word_at w (length n.list)) (lits n) absent (named n c name) (λ q m. k.written.lits q (in_keep n k.accepted.tables (λ p. name_of n p == name) c q l m))
 
 module _ (n : Netlist) (w : List ℕ) (c : ℕ) (k : Known n w) (l : c < length n.kinds) where
   pub start_in : c < length n.starts
@@ -215,15 +188,16 @@ module _ (n : Netlist) (at : ℕ) (w ws : List ℕ) (t : Tally) (c : ℕ) where
       pub clock_ready : Table at w₁ ws₁ clock.tally
       clock_ready = e.table
 
-      module _ (d sl rl : Literal) (ed : d.word ≡ first_or 0 (lits n) (named n c 4)) (es : sl.word ≡ first_or 1 (lits n) (named n c 6)) (er : rl.word ≡ first_or 1 (lits n) (named n c 7)) where
+      module _ (d sl rl : Literal) (kn : Known n w) (lc : c < length n.kinds) (ed : d.word ≡ first_or 0 (word_at w (length n.list)) (named n c 4))
+          (es : sl.word ≡ first_or 1 (word_at w (length n.list)) (named n c 6)) (er : rl.word ≡ first_or 1 (word_at w (length n.list)) (named n c 7)) where
         pub cell_made : (w₂ ws₂ : List ℕ) (q : Option Pair) → Doubles at (flop_both (drafted ws₁ clock.tally) d.word clock.lit.word sl.word rl.word) w₁ ws₁ clock.tally w₂ ws₂ q
             → Doubles at (flop_made n (drafted ws t) c) w ws t w₂ ws₂ q
         cell_made w₂ ws₂ q h = pair_then at k w ws t w₁ ws₁ (flop_made n (drafted ws t) c) clock e w₂ ws₂ q (subst (λ (b : Both). Doubles at b w₁ ws₁ clock.tally w₂ ws₂ q) same h)
           where
             same : flop_both (drafted ws₁ clock.tally) d.word clock.lit.word sl.word rl.word ≡ flop_made n (drafted ws t) c
             same = ap₂ (λ (ds : List Driver) (y : ℕ). flop_both ds d.word y sl.word rl.word) e.drivers e.lit
-                ∙ ap (λ (y : ℕ). flop_both k.drivers y k.lit sl.word rl.word) ed
-                ∙ ap₂ (λ (y y' : ℕ). flop_both k.drivers (first_or 0 (lits n) (named n c 4)) k.lit y y') es er
+                ∙ ap (λ (y : ℕ). flop_both k.drivers y k.lit sl.word rl.word) (ed ∙ named_known n w c 4 0 kn lc)
+                ∙ ap₂ (λ (y y' : ℕ). flop_both k.drivers (first_or 0 (lits n) (named n c 4)) k.lit y y') (es ∙ named_known n w c 6 1 kn lc) (er ∙ named_known n w c 7 1 kn lc)
 
 -- ---- the record's words
 pub three-written : (t : List ℕ) (k next enable pin : ℕ) → 3 * k + 3 ≤ length t

@@ -9,6 +9,7 @@ ghost use Rattle.roles.specs.Reading.{Held, entry_of};
 ghost use Rattle.flops.specs.Flopped.{Known};
 ghost use Rattle.rows.specs.Words.{has_bit, bit_lit, plain_word};
 
+use literals::literal_at;
 use roles::pin_word;
 use rules::NetlistTables;
 use words::word;
@@ -48,7 +49,7 @@ fn cell_bit(n: NetlistTables, work: &[u32], cell: u32, name: u32, bit: u32) -> u
     let count = end - from;
     let found = entry_bit(n.list, n.pins, from, count, name, bit);
     match found {
-        Some(p) => word(work, 7 * n.list.len() + p as usize),
+        Some(p) => literal_at(work, n.list.len(), p).word,
         None => 0,
     }
 }

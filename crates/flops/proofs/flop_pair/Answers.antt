@@ -1,5 +1,5 @@
 use Rattle.rules.specs.Tables.{netlist_in}
-use Rattle.flops.proofs.Flopping.{clock_named, clock_ready, cell_stops, cell_made}
+use Rattle.flops.proofs.Flopping.{known, clock_named, clock_ready, cell_stops, cell_made}
 use borrow.Author.Rules.{rules}
 use Rattle.flops.proofs.flop_pair.Goals as goal
 
@@ -13,4 +13,4 @@ pub flop_gates-requires : goal.flop_gates-requires
 flop_gates-requires c = let a = c.args in clock_ready (netlist_in a.n) _ _ _ _ a.cell _ _ _ c.in_ok-clock.ensures
 
 pub returns : goal.returns
-returns c = let a = c.args in cell_made (netlist_in a.n) _ _ _ _ a.cell _ _ _ c.in_ok-clock.ensures a.d a.s a.r c.requires.word_value c.requires.word_value_2 c.requires.word_value_3 _ _ _ c.flop_gates.ensures
+returns c = let a = c.args in cell_made (netlist_in a.n) _ _ _ _ a.cell _ _ _ c.in_ok-clock.ensures c.named_literal-d.result c.named_literal-s.result c.named_literal-r.result (known _ _ _ _ _ c.requires.going) c.requires.cell_in_bounds c.named_literal-d.ensures c.named_literal-s.ensures c.named_literal-r.ensures _ _ _ c.flop_gates.ensures
