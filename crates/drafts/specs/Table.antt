@@ -1,5 +1,5 @@
 -- The driver table and the tallies of a graph in the making, and what a step leaves of them.
-use Rattle.std.specs.Prelude.{◌≡◌, true, false, List, [], ◌∷◌, ◌++◌, ℕ, ◌*◌, ◌<◌, ◌≤◌, length, if◌then◌else◌, ◌==◌}
+use Rattle.std.specs.Prelude.{◌≡◌, Option, Some, None, List, [], ◌∷◌, ◌++◌, ℕ, ◌*◌, ◌<◌, ◌≤◌, length, if◌then◌else◌, ◌==◌}
 use Rattle.laws.specs.Words.{SameBelow}
 use Rattle.rules.specs.declared.Driver.{Driver}
 use Rattle.rules.specs.declared.Tally.{Tally}
@@ -37,7 +37,7 @@ pub record SameEnds (t t' : Tally) : Type 0 where
   pub rams : t'.rams ≡ t.rams
 
 -- all of m is there, and the words before the index are as they were; or the table has no room for it
-pub data Extends (at : ℕ) (m : Made) (w ws : List ℕ) (t : Tally) (w' ws' : List ℕ) (r : Added) : Type 0 where
-  made : r.fits ≡ true → r.lit.word ≡ m.lit → Table at w' ws' r.tally → drafted ws' r.tally ≡ m.drivers → SameEnds t r.tally
+pub data Extends (at : ℕ) (m : Made) (w ws : List ℕ) (t : Tally) (w' ws' : List ℕ) (r : Option Added) : Type 0 where
+  made : (a : Added) → r ≡ Some a → a.lit.word ≡ m.lit → Table at w' ws' a.tally → drafted ws' a.tally ≡ m.drivers → SameEnds t a.tally
       → SameBelow at w w' → length ws' ≡ length ws → Extends at m w ws t w' ws' r
-  full : r.fits ≡ false → length ws < 3 * length m.drivers → length w' ≡ length w → length ws' ≡ length ws → Extends at m w ws t w' ws' r
+  full : r ≡ None → length ws < 3 * length m.drivers → length w' ≡ length w → length ws' ≡ length ws → Extends at m w ws t w' ws' r

@@ -1,5 +1,5 @@
-// A graph in the making: the driver table with its running tallies. Each step adds what the rules add, or says that the
-// table is full; how known pairs are found lies in the work words from `at` on.
+// A graph in the making: the driver table with its running tallies. Each step adds what the rules add, or gives nothing
+// where the table is full; how known pairs are found lies in the work words from `at` on.
 #![tactic(auto)]
 
 ghost use Rattle.std.specs.Prelude.{◌≡◌, Bool, true, false, ℕ, ◌+◌, ◌*◌, ◌<◌, ◌≤◌, length};
@@ -8,27 +8,19 @@ ghost use Rattle.rules.specs.Build.{is_gate};
 ghost use Rattle.drafts.specs.Table.{Table, drafted, pushed, set_reset, Extends, gate_counted};
 
 use drivers::put_driver;
-use gates::{AndMade, add_and_gate};
+use gates::add_and_gate;
 use rules::{Driver, Literal, Tally};
 use tallies::pin_made;
 
-// What a step gives: whether it fits, its literal, and the tallies after it.
-#[derive(Drop)]
+// What a step gives where the table has room for it: its literal, and the tallies after it.
+#[derive(Clone, Copy)]
 pub struct Added {
-    pub fits: bool,
     pub lit: Literal,
     pub tally: Tally,
 }
 
-// Whether all fits so far, and the tallies.
-#[derive(Drop)]
-pub struct Counted {
-    pub fits: bool,
-    pub tally: Tally,
-}
-
 // A pin with a driver that is no gate.
-pub fn push(drivers: &mut [u32], work: &[u32], at: usize, t: Tally, d: Driver) -> Added
+pub fn push(drivers: &mut [u32], work: &[u32], at: usize, t: Tally, d: Driver) -> Option<Added>
     requires table { Table at work.now drivers.old t }
     requires d_value { is_gate d ≡ false }
     ensures { Extends at (pushed (drafted drivers.old t) d) work.now drivers.old t work.now drivers.new result }
@@ -36,20 +28,15 @@ pub fn push(drivers: &mut [u32], work: &[u32], at: usize, t: Tally, d: Driver) -
     let pin = t.pins + 1;
     let row = pin as usize;
     if drivers.len() < 3 * row + 3 {
-        return Added {
-            fits: false,
-            lit: Literal { word: 0 },
-            tally: t,
-        };
+        return None;
     }
     put_driver(drivers, row, d);
     let more = pin_made(t, d);
     let word = 2 * pin;
-    Added {
-        fits: true,
-        lit: Literal { word: word },
+    Some(Added {
+        lit: Literal { word },
         tally: more,
-    }
+    })
 }
 
 // A gate more where there is a pin more.
@@ -74,24 +61,15 @@ pub fn and_of(
     t: Tally,
     a: Literal,
     b: Literal,
-) -> Added
+) -> Option<Added>
     requires { Table at work.old drivers.old t }
     ensures { Extends at (and_of (drafted drivers.old t) a.word b.word) work.old drivers.old t work.new drivers.new result }
 {
-    let pins = t.pins;
-    let step = add_and_gate(drivers, work, at, pins, a, b);
-    match step {
-        AndMade::Got(lit, now) => Added {
-            fits: true,
-            lit: lit,
-            tally: gate_counted(t, now),
-        },
-        AndMade::NoRoom => Added {
-            fits: false,
-            lit: a,
-            tally: t,
-        },
-    }
+    let step = add_and_gate(drivers, work, at, t.pins, a, b)?;
+    Some(Added {
+        lit: step.lit,
+        tally: gate_counted(t, step.pins),
+    })
 }
 
 // "v or not w": the opposite of the AND of v's opposite and w.
@@ -102,20 +80,17 @@ pub fn or_not(
     t: Tally,
     v: Literal,
     w: Literal,
-) -> Added
+) -> Option<Added>
     requires { Table at work.old drivers.old t }
     ensures { Extends at (or_not (drafted drivers.old t) v.word w.word) work.old drivers.old t work.new drivers.new result }
 {
     let other = v.opposite();
-    let step = and_of(drivers, work, at, t, other, w);
-    let lit = step.lit;
-    let tally = step.tally;
-    let turned = lit.opposite();
-    Added {
-        fits: step.fits,
+    let step = and_of(drivers, work, at, t, other, w)?;
+    let turned = step.lit.opposite();
+    Some(Added {
         lit: turned,
-        tally: tally,
-    }
+        tally: step.tally,
+    })
 }
 
 // A stored bit v as its set and reset let it through: "(v or not s) and r".
@@ -127,15 +102,10 @@ pub fn set_reset(
     v: Literal,
     s: Literal,
     r: Literal,
-) -> Added
+) -> Option<Added>
     requires { Table at work.old drivers.old t }
     ensures { Extends at (set_reset (drafted drivers.old t) v.word s.word r.word) work.old drivers.old t work.new drivers.new result }
 {
-    let set = or_not(drivers, work, at, t, v, s);
-    if !set.fits {
-        return set;
-    }
-    let tally = set.tally;
-    let lit = set.lit;
-    and_of(drivers, work, at, tally, lit, r)
+    let set = or_not(drivers, work, at, t, v, s)?;
+    and_of(drivers, work, at, set.tally, set.lit, r)
 }

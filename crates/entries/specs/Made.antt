@@ -1,9 +1,8 @@
 -- What the tables and the work words hold once an entry is made; or that there is no room for it.
-use Rattle.std.specs.Prelude.{◌≡◌, true, false, List, [], ◌∷◌, ◌++◌, ℕ, ◌+◌, ◌*◌, ◌<◌, ◌≤◌, length, get_or, set}
+use Rattle.std.specs.Prelude.{◌≡◌, Option, Some, None, List, [], ◌∷◌, ◌++◌, ℕ, ◌+◌, ◌*◌, ◌<◌, ◌≤◌, length, get_or, set}
 use Rattle.rules.specs.declared.Driver.TheVariants.{Dff, Ram}
 use Rattle.rules.specs.declared.Tally.{Tally}
 use Rattle.tallies.specs.Counted.{output_counted}
-use Rattle.drafts.specs.declared.Counted.{Counted}
 use Rattle.drafts.specs.Table.{Table, drafted, SameEnds}
 use Rattle.numbers.specs.Numbering.{counted, numbered, flops_counted, rams_counted}
 
@@ -11,27 +10,27 @@ use Rattle.numbers.specs.Numbering.{counted, numbered, flops_counted, rams_count
 abbrev pub own_words : List ℕ → ℕ → ℕ → Tally → List ℕ
 own_words w m place u = set w (m + place) u.pins
 
-pub data FlopMade (m at room cell place : ℕ) (w ws : List ℕ) (t : Tally) (w' ws' : List ℕ) (r : Counted) : Type 0 where
+pub data FlopMade (m at room cell place : ℕ) (w ws : List ℕ) (t : Tally) (w' ws' : List ℕ) (r : Option Tally) : Type 0 where
   flop : (u : Tally) → Table at w ws' u → drafted ws' u ≡ drafted ws t ++ (Dff cell ∷ []) → SameEnds t u → length ws' ≡ length ws
       → w' ≡ numbered (own_words w m place u) (6 * m + place) u.dffs → r ≡ flops_counted u (counted (own_words w m place u) (6 * m + place) u.dffs) room
       → FlopMade m at room cell place w ws t w' ws' r
-  no_flop : r.fits ≡ false → length ws < 3 * length (drafted ws t ++ (Dff cell ∷ [])) → w' ≡ w → length ws' ≡ length ws → FlopMade m at room cell place w ws t w' ws' r
+  no_flop : r ≡ None → length ws < 3 * length (drafted ws t ++ (Dff cell ∷ [])) → w' ≡ w → length ws' ≡ length ws → FlopMade m at room cell place w ws t w' ws' r
 
 -- a read-data pin p of a RAM: its pin, and the RAM's number
 abbrev pub data_words : List ℕ → ℕ → ℕ → List ℕ → Tally → List ℕ
 data_words w m p ws t = set w (7 * m + p) (2 * length (drafted ws t))
 
-pub data RamMade (m at room cell place p : ℕ) (w ws : List ℕ) (t : Tally) (w' ws' : List ℕ) (r : Counted) : Type 0 where
+pub data RamMade (m at room cell place p : ℕ) (w ws : List ℕ) (t : Tally) (w' ws' : List ℕ) (r : Option Tally) : Type 0 where
   ram : (u : Tally) → Table at w ws' u → drafted ws' u ≡ drafted ws t ++ (Ram cell ∷ []) → SameEnds t u → length ws' ≡ length ws
       → w' ≡ numbered (data_words w m p ws t) (6 * m + place) u.rams → r ≡ rams_counted u (counted (data_words w m p ws t) (6 * m + place) u.rams) room
       → RamMade m at room cell place p w ws t w' ws' r
-  no_ram_lem : r.fits ≡ false → length ws < 3 * length (drafted ws t ++ (Ram cell ∷ [])) → w' ≡ w → length ws' ≡ length ws → RamMade m at room cell place p w ws t w' ws' r
+  no_ram_lem : r ≡ None → length ws < 3 * length (drafted ws t ++ (Ram cell ∷ [])) → w' ≡ w → length ws' ≡ length ws → RamMade m at room cell place p w ws t w' ws' r
 
 -- an output port p takes the literal l, which joins the outputs where it is new
-pub data OutputMade (m p l : ℕ) (w os : List ℕ) (t : Tally) (w' os' : List ℕ) (r : Counted) : Type 0 where
-  known : (get_or (set w (7 * m + p) l) (8 * m + l) 0 ≡ 0 → ⊥) → r ≡ record { fits = true; tally = t } → w' ≡ set w (7 * m + p) l → os' ≡ os
+pub data OutputMade (m p l : ℕ) (w os : List ℕ) (t : Tally) (w' os' : List ℕ) (r : Option Tally) : Type 0 where
+  known : (get_or (set w (7 * m + p) l) (8 * m + l) 0 ≡ 0 → ⊥) → r ≡ Some t → w' ≡ set w (7 * m + p) l → os' ≡ os
       → OutputMade m p l w os t w' os' r
-  new : get_or (set w (7 * m + p) l) (8 * m + l) 0 ≡ 0 → t.outputs < length os → r ≡ record { fits = true; tally = output_counted t }
+  new : get_or (set w (7 * m + p) l) (8 * m + l) 0 ≡ 0 → t.outputs < length os → r ≡ Some (output_counted t)
       → w' ≡ set (set w (7 * m + p) l) (8 * m + l) 1 → os' ≡ set os t.outputs l → OutputMade m p l w os t w' os' r
-  no_output : get_or (set w (7 * m + p) l) (8 * m + l) 0 ≡ 0 → length os ≤ t.outputs → r ≡ record { fits = false; tally = t } → w' ≡ set w (7 * m + p) l → os' ≡ os
+  no_output : get_or (set w (7 * m + p) l) (8 * m + l) 0 ≡ 0 → length os ≤ t.outputs → r ≡ None → w' ≡ set w (7 * m + p) l → os' ≡ os
       → OutputMade m p l w os t w' os' r

@@ -1,19 +1,19 @@
-// An entry more in the tables: a flip-flop's record, a RAM's record, an output literal; or a pin's literal and nothing more.
+// An entry more in the tables: a flip-flop's record, a RAM's record, an output literal.
 #![tactic(auto)]
 
-ghost use Rattle.std.specs.Prelude.{◌≡◌, true, ℕ, ◌+◌, ◌*◌, ◌<◌, ◌≤◌, length, set};
+ghost use Rattle.std.specs.Prelude.{◌≡◌, ℕ, ◌+◌, ◌*◌, ◌<◌, ◌≤◌, length};
 ghost use Rattle.drafts.specs.Table.{Table};
 ghost use Rattle.numbers.specs.Numbering.{counted, numbered, flops_counted, rams_counted};
 ghost use Rattle.entries.specs.Made.{own_words, FlopMade, RamMade, OutputMade};
 
-use drafts::{Counted, push};
+use drafts::push;
 use literals::put_literal;
 use numbers::{count_flops, count_rams, number_cell};
 use rules::{Driver, Literal, Tally};
 use tallies::output_made;
 
 // The last pin becomes a flip-flop's own, and its record takes its number.
-fn number_flop(work: &mut [u32], m: usize, room: u32, t: Tally, place: usize) -> Counted
+fn number_flop(work: &mut [u32], m: usize, room: u32, t: Tally, place: usize) -> Option<Tally>
     requires place_lt_m { place < m }
     requires m_in_bounds { 8 * m ≤ length work.old }
     requires room_bound { room ≤ 1048576 }
@@ -29,7 +29,7 @@ fn number_flop(work: &mut [u32], m: usize, room: u32, t: Tally, place: usize) ->
 }
 
 // A RAM's record takes its number, where it has none yet.
-fn number_ram(work: &mut [u32], m: usize, room: u32, t: Tally, place: usize) -> Counted
+fn number_ram(work: &mut [u32], m: usize, room: u32, t: Tally, place: usize) -> Option<Tally>
     requires place_lt_m { place < m }
     requires m_in_bounds { 8 * m ≤ length work.old }
     requires room_bound { room ≤ 1048576 }
@@ -52,7 +52,7 @@ pub fn make_flop(
     t: Tally,
     cell: u32,
     place: usize,
-) -> Counted
+) -> Option<Tally>
     requires table { Table at work.old drivers.old t }
     requires place_lt_m { place < m }
     requires m_bound { 8 * m ≤ at }
@@ -60,15 +60,8 @@ pub fn make_flop(
     requires dffs_bound { t.dffs ≤ 1048576 }
     ensures { FlopMade m at room cell place work.old drivers.old t work.new drivers.new result }
 {
-    let step = push(drivers, work, at, t, Driver::Dff(cell));
-    let pushed = step.tally;
-    if !step.fits {
-        return Counted {
-            fits: false,
-            tally: pushed,
-        };
-    }
-    number_flop(work, m, room, pushed, place)
+    let step = push(drivers, work, at, t, Driver::Dff(cell))?;
+    number_flop(work, m, room, step.tally, place)
 }
 
 // The output of a RAM: a pin for itself, and the number of its record where it has none yet.
@@ -82,7 +75,7 @@ pub fn make_ram(
     p: u32,
     cell: u32,
     place: usize,
-) -> Counted
+) -> Option<Tally>
     requires table { Table at work.old drivers.old t }
     requires p_lt_m { p < m }
     requires place_lt_m { place < m }
@@ -91,17 +84,9 @@ pub fn make_ram(
     requires rams_bound { t.rams ≤ 1048576 }
     ensures { RamMade m at room cell place p work.old drivers.old t work.new drivers.new result }
 {
-    let step = push(drivers, work, at, t, Driver::Ram(cell));
-    let pushed = step.tally;
-    if !step.fits {
-        return Counted {
-            fits: false,
-            tally: pushed,
-        };
-    }
-    let lit = step.lit;
-    put_literal(work, m, p, lit);
-    number_ram(work, m, room, pushed, place)
+    let step = push(drivers, work, at, t, Driver::Ram(cell))?;
+    put_literal(work, m, p, step.lit);
+    number_ram(work, m, room, step.tally, place)
 }
 
 // A literal becomes that of an output port, and joins the outputs where it is not among them yet.
@@ -112,7 +97,7 @@ pub fn add_output(
     t: Tally,
     p: u32,
     lit: Literal,
-) -> Counted
+) -> Option<Tally>
     requires p_lt_m { p < m }
     requires word_in_bounds { 8 * m + lit.word < length work.old }
     requires outputs_len_bound { length outputs.old ≤ 1048576 }
@@ -123,36 +108,13 @@ pub fn add_output(
     let mark = 8 * m + word as usize;
     let known = work[mark];
     if known != 0 {
-        return Counted {
-            fits: true,
-            tally: t,
-        };
+        return Some(t);
     }
     let next = t.outputs as usize;
     if outputs.len() <= next {
-        return Counted {
-            fits: false,
-            tally: t,
-        };
+        return None;
     }
     outputs[next] = word;
     work[mark] = 1;
-    let more = output_made(t);
-    Counted {
-        fits: true,
-        tally: more,
-    }
-}
-
-// A pin takes a literal, and nothing is made.
-pub fn take(work: &mut [u32], m: usize, t: Tally, p: u32, word: u32) -> Counted
-    requires { 7 * m + p < length work.old }
-    ensures value { result ≡ record { fits = true; tally = t } }
-    ensures work_after { work.new ≡ set work.old (7 * m + p) word }
-{
-    put_literal(work, m, p, Literal { word: word });
-    Counted {
-        fits: true,
-        tally: t,
-    }
+    Some(output_made(t))
 }

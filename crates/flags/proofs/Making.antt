@@ -1,12 +1,11 @@
 -- One flag, in the code's shape.
 use mathlib.Core.Path.{◌≡◌, refl, sym, ap, subst, ◌∙◌}
-use mathlib.Core.Bool.{true, false}
 use mathlib.Core.List.{List, [], ◌∷◌, ◌++◌}
 use Prim.Native.Nat.{ℕ, ◌+◌, ◌*◌, ◌≤◌, ◌<◌}
 use native.Mathlib.Omega.{arith}
 use lib.ListN.{length, get_or, set, length-set}
 use lib.Seq.{get_or-set_other}
-use Rattle.laws.proofs.Tests.{true≢false}
+use Rattle.std.specs.Prelude.{Some, None}
 use Rattle.rules.specs.declared.Edge.{Edge}
 use Rattle.rules.specs.declared.Driver.{Driver}
 use Rattle.rules.specs.declared.Driver.TheVariants.{Flag}
@@ -14,13 +13,14 @@ use Rattle.rules.specs.declared.Tally.{Tally}
 use Rattle.rules.specs.Graph.{driver_at, first_pin}
 use Rattle.rules.specs.Tables.{edge_word}
 use Rattle.rules.specs.Build.{is_flag, flag_for}
+use Rattle.rules.proofs.Tables.{clash}
 use Rattle.drivers.proofs.Rows.{drivers_long_lem, driver_old, one-longer}
 use Rattle.builds.proofs.Ands.{flag_self, flag_only, known_same}
 use Rattle.drafts.specs.declared.Added.{Added}
 use Rattle.drafts.specs.Table.{drafted, pushed, Extends}
 use Rattle.drafts.specs.Table as table
 use Rattle.drafts.specs.Layout.{flag_word, Flags}
-use Rattle.drafts.proofs.Steps.{ends_refl, table_store}
+use Rattle.drafts.proofs.Steps.{ends_refl, table_store, extended}
 use Rattle.flags.specs.Flagging.{Flagging, FlagsOnly, Flagged, made, full}
 use Rattle.flags.proofs.Words.{edge_le, word_found, word_none, made_new, flags_more}
 
@@ -38,66 +38,46 @@ module _ (m at : ℕ) (w ws : List ℕ) (t : Tally) (q : ℕ) (e : Edge) (h : Fl
   long = drivers_long_lem ws t.pins
 
   module _ (edge : ℕ) (ee : edge ≡ edge_word e) where
-    pub place_in : 4 * m + 2 * q + edge < length w
-    place_in = omega (arith, lq, ee, edge_le e, h.inside, h.table.ready.wide)
-
     word : get_or w (4 * m + 2 * q + edge) 0 ≡ flag_word ds q e
     word = ap (λ (x : ℕ). get_or w (4 * m + 2 * q + x) 0) ee ∙ h.flags.words q e lq
 
     pub flag_known : (get_or w (4 * m + 2 * q + edge) 0 ≡ 0 → ⊥)
-        → Flagged m at (flag_for (drafted ws t) q e).drivers w ws t w ws (record { fits = true; tally = t })
-    flag_known ne = made refl h (sym (known_same (is_flag q e) (Flag q e) ds (flag_self q e) (flag_only q e) (word_found ds q e (λ z. ne (word ∙ z))))) (ends_refl t) (only_refl m at w) refl
+        → Flagged m at (flag_for (drafted ws t) q e).drivers w ws t w ws (Some t)
+    flag_known ne = made t refl h (sym (known_same (is_flag q e) (Flag q e) ds (flag_self q e) (flag_only q e) (word_found ds q e (λ z. ne (word ∙ z))))) (ends_refl t) (only_refl m at w) refl
 
-    module _ (z : get_or w (4 * m + 2 * q + edge) 0 ≡ 0) (ws' : List ℕ) (step : Added)
-        (s : Extends at (pushed (drafted ws t) (Flag q e)) w ws t w ws' step) where
+    module _ (z : get_or w (4 * m + 2 * q + edge) 0 ≡ 0) (ws' : List ℕ) where
       none : length ds ≤ first_pin (is_flag q e) ds
       none = word_none ds q e h.first (sym word ∙ z)
 
       new : (flag_for (drafted ws t) q e).drivers ≡ drafted ws t ++ (Flag q e ∷ [])
       new = made_new ds q e none
 
-      pub flag_full : step.fits ≡ false
-          → Flagged m at (flag_for (drafted ws t) q e).drivers w ws t w ws' (record { fits = false; tally = step.tally })
-      flag_full f = from s
-        where
-          from : Extends at (pushed (drafted ws t) (Flag q e)) w ws t w ws' step
-              → Flagged m at (flag_for (drafted ws t) q e).drivers w ws t w ws' (record { fits = false; tally = step.tally })
-          from (table.made a b c d g i j) = true≢false step.fits a f
-          from (table.full a b c d) = full refl (omega (arith, b, ap length new)) c d
+      pub flag_full : Extends at (pushed (drafted ws t) (Flag q e)) w ws t w ws' None → Flagged m at (flag_for (drafted ws t) q e).drivers w ws t w ws' None
+      flag_full (table.made a e' b c d g i j) = let x : None ≡ Some a = e' in clash (cc)
+      flag_full (table.full a b c d) = full refl (omega (arith, b, ap length new)) c d
 
-      pub pin_in : 4 * m + 2 * q + edge < length w
-      pin_in = place_in
-
-      pub flag_new : step.fits ≡ true
-          → Flagged m at (flag_for (drafted ws t) q e).drivers w ws t (set w (4 * m + 2 * q + edge) step.tally.pins) ws' (record { fits = true; tally = step.tally })
-      flag_new f = from s
-        where
-          place : ℕ
-          place = 4 * m + 2 * q + edge
-
-          low : 4 * m + 2 * q + edge < 6 * m
-          low = omega (arith, lq, ee, edge_le e)
-
-          from : Extends at (pushed (drafted ws t) (Flag q e)) w ws t w ws' step
-              → Flagged m at (flag_for (drafted ws t) q e).drivers w ws t (set w (4 * m + 2 * q + edge) step.tally.pins) ws' (record { fits = true; tally = step.tally })
-          from (table.full a b c d) = true≢false step.fits f a
-          from (table.made a b c d g i j) =
-              let count : step.tally.pins ≡ length ds = omega (arith, drivers_long_lem ws' step.tally.pins, ap length d, one-longer ds (Flag q e), long) in
-              made refl
-              (record {
-                table = table_store at w ws' step.tally (4 * m + 2 * q + edge) step.tally.pins (omega (arith, low, h.inside)) c;
-                first = ap (λ (x : List Driver). driver_at x 0) d ∙ driver_old ds (Flag q e) 0 (omega (arith, long)) ∙ h.first;
-                flags = subst (Flags m (set w (4 * m + 2 * q + edge) step.tally.pins)) (sym d)
-                    (subst (λ (v : ℕ). Flags m (set w (4 * m + 2 * q + edge) v) (ds ++ (Flag q e ∷ []))) (sym count)
-                    (subst (λ (x : ℕ). Flags m (set w (4 * m + 2 * q + x) (length ds)) (ds ++ (Flag q e ∷ []))) (sym ee)
-                    (flags_more ds q e none m w h.flags lq (omega (arith, h.inside, h.table.ready.wide)))));
-                small = h.small;
-                inside = h.inside;
-              })
-              (d ∙ sym new) g
-              (record {
-                long = length-set w (4 * m + 2 * q + edge) step.tally.pins;
-                before = λ k l. get_or-set_other w (4 * m + 2 * q + edge) k step.tally.pins 0 (λ x. omega (arith, l, x));
-                after = λ k l o. get_or-set_other w (4 * m + 2 * q + edge) k step.tally.pins 0 (λ x. omega (arith, l, low, x));
-              })
-              j
+      pub flag_new : (step : Added) → Extends at (pushed (drafted ws t) (Flag q e)) w ws t w ws' (Some step)
+          → Flagged m at (flag_for (drafted ws t) q e).drivers w ws t (set w (4 * m + 2 * q + edge) step.tally.pins) ws' (Some step.tally)
+      flag_new step s =
+          let x = extended at (pushed (drafted ws t) (Flag q e)) w ws t w ws' step s in
+          let d = x.drivers in
+          let low : 4 * m + 2 * q + edge < 6 * m = omega (arith, lq, ee, edge_le e) in
+          let count : step.tally.pins ≡ length ds = omega (arith, drivers_long_lem ws' step.tally.pins, ap length d, one-longer ds (Flag q e), long) in
+          made step.tally refl
+          (record {
+            table = table_store at w ws' step.tally (4 * m + 2 * q + edge) step.tally.pins (omega (arith, low, h.inside)) x.table;
+            first = ap (λ (x : List Driver). driver_at x 0) d ∙ driver_old ds (Flag q e) 0 (omega (arith, long)) ∙ h.first;
+            flags = subst (Flags m (set w (4 * m + 2 * q + edge) step.tally.pins)) (sym d)
+                (subst (λ (v : ℕ). Flags m (set w (4 * m + 2 * q + edge) v) (ds ++ (Flag q e ∷ []))) (sym count)
+                (subst (λ (x : ℕ). Flags m (set w (4 * m + 2 * q + x) (length ds)) (ds ++ (Flag q e ∷ []))) (sym ee)
+                (flags_more ds q e none m w h.flags lq (omega (arith, h.inside, h.table.ready.wide)))));
+            small = h.small;
+            inside = h.inside;
+          })
+          (d ∙ sym new) x.ends
+          (record {
+            long = length-set w (4 * m + 2 * q + edge) step.tally.pins;
+            before = λ k l. get_or-set_other w (4 * m + 2 * q + edge) k step.tally.pins 0 (λ x. omega (arith, l, x));
+            after = λ k l o. get_or-set_other w (4 * m + 2 * q + edge) k step.tally.pins 0 (λ x. omega (arith, l, low, x));
+          })
+          x.long

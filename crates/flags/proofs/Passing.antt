@@ -1,15 +1,17 @@
 -- The flags of a pin, of a list, of a cell and of all cells, in the code's shape.
 use mathlib.Core.Path.{◌≡◌, refl, sym, ap, subst, ◌∙◌}
 use mathlib.Core.Bool.{Bool, true, false}
+use mathlib.Core.Logic.{◌⊎◌, inl, inr}
 use mathlib.Core.List.{List, [], ◌∷◌}
 use Prim.Native.Nat.{ℕ, zero, suc, ◌+◌, ◌-◌, ◌*◌, ◌≤◌, ◌<◌}
 use native.Mathlib.Omega.{arith}
 use native.Mathlib.Numerals.{add-one}
 use lib.ListN.{length, get_or, take, drop}
 use lib.Seq.{take_all}
+use Rattle.std.specs.Prelude.{Option, Some, None}
 use Rattle.laws.specs.Lists.{over, keep, upto}
 use Rattle.laws.specs.Words.{part}
-use Rattle.laws.proofs.Tests.{by_test, true≢false}
+use Rattle.laws.proofs.Tests.{by_test}
 use Rattle.laws.proofs.Folds.{over-take, over-flat}
 use Rattle.laws.proofs.Ranges.{length-upto, at_upto}
 use Rattle.laws.proofs.Words.{part_length, part_at}
@@ -23,81 +25,68 @@ use Rattle.rules.specs.Graph.{driver_at}
 use Rattle.rules.specs.Tables.{edge_word}
 use Rattle.rules.specs.Build.{is_clock, clocks_of, walk, flag_for, flag_of, step1}
 use Rattle.roles.specs.Reading.{tables, Fits, kind_at}
+use Rattle.rules.proofs.Tables.{clash}
 use Rattle.builds.proofs.Steps.{flag_of_grows}
 use Rattle.clocks.specs.declared.WalkEnd.{WalkEnd}
 use Rattle.clocks.specs.declared.WalkEnd.TheVariants.{Still, Root, Strange, Far}
 use Rattle.clocks.specs.declared.Walked.{Walked}
 use Rattle.clocks.specs.Walks.{Span, told}
-use Rattle.drafts.specs.Table.{drafted}
+use Rattle.drafts.specs.Table.{drafted, SameEnds}
 use Rattle.drafts.specs.Layout.{flag_word}
 use Rattle.drafts.proofs.Steps.{ends_refl, ends_trans}
-use Rattle.drafts.specs.declared.Counted.{Counted}
-use Rattle.flags.specs.Flagging.{Flagging, Flagged, made, full, Blank, PortWithin, flag_at, flag_if, flags_of}
+use Rattle.flags.specs.Flagging.{Flagging, FlagsOnly, Flagged, made, full, Blank, PortWithin, flag_at, flag_if, flags_of}
 use Rattle.flags.proofs.Words.{edge_le, word_alone}
 use Rattle.flags.proofs.Making.{only_refl, only_trans}
 use Rattle.flags.proofs.Roots.{flag_end, root_within}
 
-abbrev fitting : Tally → Counted
-fitting t = record { fits = true; tally = t }
-
 -- ---- one after the other
-pub flagged_begins : (m at : ℕ) (w ws : List ℕ) (t : Tally) → Flagging m at w ws t → Flagged m at (drafted ws t) w ws t w ws (fitting t)
-flagged_begins m at w ws t h = made refl h refl (ends_refl t) (only_refl m at w) refl
+pub flagged_begins : (m at : ℕ) (w ws : List ℕ) (t : Tally) → Flagging m at w ws t → Flagged m at (drafted ws t) w ws t w ws (Some t)
+flagged_begins m at w ws t h = made t refl h refl (ends_refl t) (only_refl m at w) refl
 
-module _ (m at : ℕ) (ds : List Driver) (w ws : List ℕ) (t : Tally) (w₁ ws₁ : List ℕ) (one : Counted) (s : Flagged m at ds w ws t w₁ ws₁ one) where
-  pub flagged_state : one.fits ≡ true → Flagging m at w₁ ws₁ one.tally
-  flagged_state e = from s
-    where
-      from : Flagged m at ds w ws t w₁ ws₁ one → Flagging m at w₁ ws₁ one.tally
-      from (made a b c d f g) = b
-      from (full a b c d) = true≢false one.fits e a
+-- what flags leave that fit
+record Kept (m at : ℕ) (ds : List Driver) (w ws : List ℕ) (t : Tally) (w' ws' : List ℕ) (t' : Tally) : Type 0 where
+  state : Flagging m at w' ws' t'
+  drivers : drafted ws' t' ≡ ds
+  ends : SameEnds t t'
+  only : FlagsOnly m at w w'
+  long : length ws' ≡ length ws
 
-  pub flagged_longer : (es : List Driver) → one.fits ≡ false → length ds ≤ length es → Flagged m at es w ws t w₁ ws₁ one
-  flagged_longer es e l = from s
-    where
-      from : Flagged m at ds w ws t w₁ ws₁ one → Flagged m at es w ws t w₁ ws₁ one
-      from (made a b c d f g) = true≢false one.fits a e
-      from (full a b c d) = full a (omega (arith, b, l)) c d
+module _ (m at : ℕ) (ds : List Driver) (w ws : List ℕ) (t : Tally) (w₁ ws₁ : List ℕ) where
+  flagged_longer : (es : List Driver) → length ds ≤ length es → Flagged m at ds w ws t w₁ ws₁ None → Flagged m at es w ws t w₁ ws₁ None
+  flagged_longer es l (made u e a b c d f) = let z : None ≡ Some u = e in clash (cc)
+  flagged_longer es l (full a b c d) = full a (omega (arith, b, l)) c d
 
-  pub flagged_then : (f : List Driver → List Driver) (w₂ ws₂ : List ℕ) (two : Counted) → one.fits ≡ true
-      → Flagged m at (f (drafted ws₁ one.tally)) w₁ ws₁ one.tally w₂ ws₂ two → Flagged m at (f ds) w ws t w₂ ws₂ two
-  flagged_then f w₂ ws₂ two e s₂ = from s
-    where
-      from : Flagged m at ds w ws t w₁ ws₁ one → Flagged m at (f ds) w ws t w₂ ws₂ two
-      from (full a b c d) = true≢false one.fits e a
-      from (made a b c d g i) = on (subst (λ (x : List Driver). Flagged m at (f x) w₁ ws₁ one.tally w₂ ws₂ two) c s₂)
-        where
-          on : Flagged m at (f ds) w₁ ws₁ one.tally w₂ ws₂ two → Flagged m at (f ds) w ws t w₂ ws₂ two
-          on (made a' b' c' d' g' i') = made a' b' c' (ends_trans d d') (only_trans g g') (i' ∙ i)
-          on (full a' b' c' d') = full a' (omega (arith, b', i)) (c' ∙ g.long) (d' ∙ i)
+  module _ (u : Tally) where
+    kept : Flagged m at ds w ws t w₁ ws₁ (Some u) → Kept m at ds w ws t w₁ ws₁ u
+    kept (made v e a b c d f) =
+        let s : v ≡ u = cc in
+        subst (Kept m at ds w ws t w₁ ws₁) s (record { state = a; drivers = b; ends = c; only = d; long = f })
+    kept (full a b c d) = let z : Some u ≡ None = a in clash (cc)
 
-  pub flagged_so : one.fits ≡ true → Flagged m at ds w ws t w₁ ws₁ (fitting one.tally)
-  flagged_so e = from s
-    where
-      from : Flagged m at ds w ws t w₁ ws₁ one → Flagged m at ds w ws t w₁ ws₁ (fitting one.tally)
-      from (made a b c d f g) = made refl b c d f g
-      from (full a b c d) = true≢false one.fits e a
+    flagged_then : (f : List Driver → List Driver) (w₂ ws₂ : List ℕ) (two : Option Tally) → Flagged m at ds w ws t w₁ ws₁ (Some u)
+        → Flagged m at (f (drafted ws₁ u)) w₁ ws₁ u w₂ ws₂ two → Flagged m at (f ds) w ws t w₂ ws₂ two
+    flagged_then f w₂ ws₂ two s s₂ = on (subst (λ (x : List Driver). Flagged m at (f x) w₁ ws₁ u w₂ ws₂ two) k.drivers s₂)
+      where
+        k : Kept m at ds w ws t w₁ ws₁ u
+        k = kept s
+
+        on : Flagged m at (f ds) w₁ ws₁ u w₂ ws₂ two → Flagged m at (f ds) w ws t w₂ ws₂ two
+        on (made v e b c d g i) = made v e b c (ends_trans k.ends d) (only_trans k.only g) (i ∙ k.long)
+        on (full a b c d) = full a (omega (arith, b, k.long)) (c ∙ k.only.long) (d ∙ k.long)
 
 -- ---- the end of a walk
 module _ (m at : ℕ) (w ws : List ℕ) (t : Tally) (end : WalkEnd) where
-  same : flag_at (drafted ws t) end ≡ drafted ws t → Flagging m at w ws t → Flagged m at (flag_at (drafted ws t) end) w ws t w ws (fitting t)
-  same e h = subst (λ (ds : List Driver). Flagged m at ds w ws t w ws (fitting t)) (sym e) (flagged_begins m at w ws t h)
+  same : flag_at (drafted ws t) end ≡ drafted ws t → Flagging m at w ws t → Flagged m at (flag_at (drafted ws t) end) w ws t w ws (Some t)
+  same e h = subst (λ (ds : List Driver). Flagged m at ds w ws t w ws (Some t)) (sym e) (flagged_begins m at w ws t h)
 
-  pub end_still : Flagging m at w ws t → end ≡ Still → Flagged m at (flag_at (drafted ws t) end) w ws t w ws (fitting t)
-  end_still h e = same (ap (flag_at (drafted ws t)) e) h
+  pub end_none : Flagging m at w ws t → (end ≡ Still) ⊎ ((end ≡ Strange) ⊎ (end ≡ Far)) → Flagged m at (flag_at (drafted ws t) end) w ws t w ws (Some t)
+  end_none h (inl e) = same (ap (flag_at (drafted ws t)) e) h
+  end_none h (inr (inl e)) = same (ap (flag_at (drafted ws t)) e) h
+  end_none h (inr (inr e)) = same (ap (flag_at (drafted ws t)) e) h
 
-  pub end_strange : Flagging m at w ws t → end ≡ Strange → Flagged m at (flag_at (drafted ws t) end) w ws t w ws (fitting t)
-  end_strange h e = same (ap (flag_at (drafted ws t)) e) h
-
-  pub end_far : Flagging m at w ws t → end ≡ Far → Flagged m at (flag_at (drafted ws t) end) w ws t w ws (fitting t)
-  end_far h e = same (ap (flag_at (drafted ws t)) e) h
-
-  pub end_root : (q : ℕ) (e : Edge) (w' ws' : List ℕ) (r : Counted) → end ≡ Root q e → Flagged m at (flag_for (drafted ws t) q e).drivers w ws t w' ws' r
+  pub end_root : (q : ℕ) (e : Edge) (w' ws' : List ℕ) (r : Option Tally) → end ≡ Root q e → Flagged m at (flag_for (drafted ws t) q e).drivers w ws t w' ws' r
       → Flagged m at (flag_at (drafted ws t) end) w ws t w' ws' r
   end_root q e w' ws' r s f = subst (λ (x : WalkEnd). Flagged m at (flag_at (drafted ws t) x) w ws t w' ws' r) (sym s) f
-
-pub end_port : (m : ℕ) (end : WalkEnd) (q : ℕ) (e : Edge) → PortWithin m end → end ≡ Root q e → q < m
-end_port m end q e h s = h.below q e s
 
 -- ---- a pin
 module _ (kinds starts list pins nets : List ℕ) (at : ℕ) (w ws : List ℕ) (t : Tally) (k p name : ℕ) (clock : Bool)
@@ -109,11 +98,11 @@ module _ (kinds starts list pins nets : List ℕ) (at : ℕ) (w ws : List ℕ) (
   tested = sym (ec ∙ ap (is_clock (kind_at k)) en)
 
   pub pin_idle : clock ≡ false → Flagging (length list) at w ws t
-      → Flagged (length list) at (flag_if (tables kinds starts list pins nets) (kind_at k) (drafted ws t) p) w ws t w ws (fitting t)
+      → Flagged (length list) at (flag_if (tables kinds starts list pins nets) (kind_at k) (drafted ws t) p) w ws t w ws (Some t)
   unfolding flag_if
   pin_idle f h = rw (tested ∙ f) (flagged_begins (length list) at w ws t h)
 
-  pub pin_walked : clock ≡ true → (x : Walked) → x ≡ told (walk (tables kinds starts list pins nets) p) 0 → (w' ws' : List ℕ) (r : Counted)
+  pub pin_walked : clock ≡ true → (x : Walked) → x ≡ told (walk (tables kinds starts list pins nets) p) 0 → (w' ws' : List ℕ) (r : Option Tally)
       → Flagged (length list) at (flag_at (drafted ws t) x.end) w ws t w' ws' r
       → Flagged (length list) at (flag_if (tables kinds starts list pins nets) (kind_at k) (drafted ws t) p) w ws t w' ws' r
   unfolding flag_if
@@ -147,34 +136,31 @@ longer-take h g (suc i) (x ∷ l) ds = longer-take h g i l (h ds x)
 -- the first i of a list have been worked
 pub record Passing (h : List Driver → ℕ → List Driver) (m at : ℕ) (l w₀ ws₀ : List ℕ) (t₀ : Tally) (w ws : List ℕ) (t : Tally) (i : ℕ) : Type 0 where
   pub inside : i ≤ length l
-  pub so_far : Flagged m at (over h (drafted ws₀ t₀) (take i l)) w₀ ws₀ t₀ w ws (fitting t)
+  pub so_far : Flagged m at (over h (drafted ws₀ t₀) (take i l)) w₀ ws₀ t₀ w ws (Some t)
 
 passing_begins : (h : List Driver → ℕ → List Driver) (m at : ℕ) (l w ws : List ℕ) (t : Tally) → Flagging m at w ws t → Passing h m at l w ws t w ws t 0
 passing_begins h m at l w ws t f = record { inside = omega arith; so_far = flagged_begins m at w ws t f }
 
 module _ (h : List Driver → ℕ → List Driver) (m at : ℕ) (l w₀ ws₀ : List ℕ) (t₀ : Tally) (w ws : List ℕ) (t : Tally) (i : ℕ)
     (p : Passing h m at l w₀ ws₀ t₀ w ws t i) where
-  passing_state : Flagging m at w ws t
-  passing_state = flagged_state m at (over h (drafted ws₀ t₀) (take i l)) w₀ ws₀ t₀ w ws (fitting t) p.so_far refl
+  passing_ends : length l ≤ i → Flagged m at (over h (drafted ws₀ t₀) l) w₀ ws₀ t₀ w ws (Some t)
+  passing_ends e = subst (λ (k : List ℕ). Flagged m at (over h (drafted ws₀ t₀) k) w₀ ws₀ t₀ w ws (Some t)) (take_all i l e) p.so_far
 
-  passing_ends : length l ≤ i → Flagged m at (over h (drafted ws₀ t₀) l) w₀ ws₀ t₀ w ws (fitting t)
-  passing_ends e = subst (λ (k : List ℕ). Flagged m at (over h (drafted ws₀ t₀) k) w₀ ws₀ t₀ w ws (fitting t)) (take_all i l e) p.so_far
+  module _ (e : i < length l) (w₁ ws₁ : List ℕ) where
+    next : (r : Option Tally) → Flagged m at (h (drafted ws t) (get_or l i 0)) w ws t w₁ ws₁ r → Flagged m at (over h (drafted ws₀ t₀) (take (suc i) l)) w₀ ws₀ t₀ w₁ ws₁ r
+    next r s = subst (λ (ds : List Driver). Flagged m at ds w₀ ws₀ t₀ w₁ ws₁ r) (sym (over-take h (drafted ws₀ t₀) l i 0 e))
+        (flagged_then m at (over h (drafted ws₀ t₀) (take i l)) w₀ ws₀ t₀ w ws t (λ ds. h ds (get_or l i 0)) w₁ ws₁ r p.so_far s)
 
-  module _ (e : i < length l) (w₁ ws₁ : List ℕ) (r : Counted) (s : Flagged m at (h (drafted ws t) (get_or l i 0)) w ws t w₁ ws₁ r) where
-    next : Flagged m at (over h (drafted ws₀ t₀) (take (suc i) l)) w₀ ws₀ t₀ w₁ ws₁ r
-    next = subst (λ (ds : List Driver). Flagged m at ds w₀ ws₀ t₀ w₁ ws₁ r) (sym (over-take h (drafted ws₀ t₀) l i 0 e))
-        (flagged_then m at (over h (drafted ws₀ t₀) (take i l)) w₀ ws₀ t₀ w ws (fitting t) p.so_far (λ ds. h ds (get_or l i 0)) w₁ ws₁ r refl s)
-
-    passing_goes_on : r.fits ≡ true → Passing h m at l w₀ ws₀ t₀ w₁ ws₁ r.tally (i + 1)
-    passing_goes_on y = record {
+    passing_goes_on : (u : Tally) → Flagged m at (h (drafted ws t) (get_or l i 0)) w ws t w₁ ws₁ (Some u) → Passing h m at l w₀ ws₀ t₀ w₁ ws₁ u (i + 1)
+    passing_goes_on u s = record {
       inside = omega arith;
-      so_far = subst (λ (k : ℕ). Flagged m at (over h (drafted ws₀ t₀) (take k l)) w₀ ws₀ t₀ w₁ ws₁ (fitting r.tally)) (sym (add-one i))
-          (flagged_so m at (over h (drafted ws₀ t₀) (take (suc i) l)) w₀ ws₀ t₀ w₁ ws₁ r next y);
+      so_far = subst (λ (k : ℕ). Flagged m at (over h (drafted ws₀ t₀) (take k l)) w₀ ws₀ t₀ w₁ ws₁ (Some u)) (sym (add-one i)) (next (Some u) s);
     }
 
-    passing_stops : ((ds : List Driver) (x : ℕ) → length ds ≤ length (h ds x)) → r.fits ≡ false → Flagged m at (over h (drafted ws₀ t₀) l) w₀ ws₀ t₀ w₁ ws₁ r
-    passing_stops g f = flagged_longer m at (over h (drafted ws₀ t₀) (take (suc i) l)) w₀ ws₀ t₀ w₁ ws₁ r next (over h (drafted ws₀ t₀) l) f
-        (longer-take h g (suc i) l (drafted ws₀ t₀))
+    passing_stops : ((ds : List Driver) (x : ℕ) → length ds ≤ length (h ds x)) → Flagged m at (h (drafted ws t) (get_or l i 0)) w ws t w₁ ws₁ None
+        → Flagged m at (over h (drafted ws₀ t₀) l) w₀ ws₀ t₀ w₁ ws₁ None
+    passing_stops g s = flagged_longer m at (over h (drafted ws₀ t₀) (take (suc i) l)) w₀ ws₀ t₀ w₁ ws₁ (over h (drafted ws₀ t₀) l)
+        (longer-take h g (suc i) l (drafted ws₀ t₀)) (next None s)
 
 -- ---- a list
 module _ (kinds starts list pins nets : List ℕ) (at : ℕ) (k a n : ℕ) where
@@ -193,25 +179,24 @@ module _ (kinds starts list pins nets : List ℕ) (at : ℕ) (k a n : ℕ) where
     unfolding part
     whole = part_length list a n sp.fits
 
-    pub list_state : Flagging (length list) at w ws t
-    list_state = passing_state h (length list) at (take n (drop a list)) w₀ ws₀ t₀ w ws t i p
-
-    pub list_ends : n ≤ i → Flagged (length list) at (over (flag_if (tables kinds starts list pins nets) (kind_at k)) (drafted ws₀ t₀) (take n (drop a list))) w₀ ws₀ t₀ w ws (fitting t)
+    pub list_ends : n ≤ i → Flagged (length list) at (over (flag_if (tables kinds starts list pins nets) (kind_at k)) (drafted ws₀ t₀) (take n (drop a list))) w₀ ws₀ t₀ w ws (Some t)
     list_ends l = passing_ends h (length list) at (take n (drop a list)) w₀ ws₀ t₀ w ws t i p (omega (arith, l, whole))
 
-    module _ (l : i < n) (w₁ ws₁ : List ℕ) (r : Counted)
-        (s : Flagged (length list) at (flag_if (tables kinds starts list pins nets) (kind_at k) (drafted ws t) (get_or list (a + i) 0)) w ws t w₁ ws₁ r) where
-      here : Flagged (length list) at (h (drafted ws t) (get_or (take n (drop a list)) i 0)) w ws t w₁ ws₁ r
+    module _ (l : i < n) (w₁ ws₁ : List ℕ) where
+      here : (r : Option Tally) → Flagged (length list) at (flag_if (tables kinds starts list pins nets) (kind_at k) (drafted ws t) (get_or list (a + i) 0)) w ws t w₁ ws₁ r
+          → Flagged (length list) at (h (drafted ws t) (get_or (take n (drop a list)) i 0)) w ws t w₁ ws₁ r
       unfolding part
-      here = subst (λ (x : ℕ). Flagged (length list) at (h (drafted ws t) x) w ws t w₁ ws₁ r) (sym (part_at list a n i l)) s
+      here r s = subst (λ (x : ℕ). Flagged (length list) at (h (drafted ws t) x) w ws t w₁ ws₁ r) (sym (part_at list a n i l)) s
 
-      pub list_goes_on : r.fits ≡ true → PassingList w₀ ws₀ t₀ w₁ ws₁ r.tally (i + 1)
-      list_goes_on y = passing_goes_on h (length list) at (take n (drop a list)) w₀ ws₀ t₀ w ws t i p (omega (arith, l, whole)) w₁ ws₁ r here y
+      pub list_goes_on : (u : Tally)
+          → Flagged (length list) at (flag_if (tables kinds starts list pins nets) (kind_at k) (drafted ws t) (get_or list (a + i) 0)) w ws t w₁ ws₁ (Some u)
+          → PassingList w₀ ws₀ t₀ w₁ ws₁ u (i + 1)
+      list_goes_on u s = passing_goes_on h (length list) at (take n (drop a list)) w₀ ws₀ t₀ w ws t i p (omega (arith, l, whole)) w₁ ws₁ u (here (Some u) s)
 
-      pub list_stops : r.fits ≡ false
-          → Flagged (length list) at (over (flag_if (tables kinds starts list pins nets) (kind_at k)) (drafted ws₀ t₀) (take n (drop a list))) w₀ ws₀ t₀ w₁ ws₁ r
-      list_stops f = passing_stops h (length list) at (take n (drop a list)) w₀ ws₀ t₀ w ws t i p (omega (arith, l, whole)) w₁ ws₁ r here
-          (longer_if (tables kinds starts list pins nets) (kind_at k)) f
+      pub list_stops : Flagged (length list) at (flag_if (tables kinds starts list pins nets) (kind_at k) (drafted ws t) (get_or list (a + i) 0)) w ws t w₁ ws₁ None
+          → Flagged (length list) at (over (flag_if (tables kinds starts list pins nets) (kind_at k)) (drafted ws₀ t₀) (take n (drop a list))) w₀ ws₀ t₀ w₁ ws₁ None
+      list_stops s = passing_stops h (length list) at (take n (drop a list)) w₀ ws₀ t₀ w ws t i p (omega (arith, l, whole)) w₁ ws₁
+          (longer_if (tables kinds starts list pins nets) (kind_at k)) (here None s)
 
 -- ---- a cell
 over-kept : (n : Netlist) (k : Kind) (l : List ℕ) (ds : List Driver) → over (flag_if n k) ds l ≡ over (λ es p. flag_of es (walk n p)) ds (keep (λ p. is_clock k (name_of n p)) l)
@@ -221,7 +206,7 @@ over-kept n k (x ∷ l) ds = by_test (is_clock k (name_of n x))
     (λ t. rw t (over-kept n k l (flag_of ds (walk n x))))
     (λ f. rw f (over-kept n k l ds))
 
-pub cell_flagged : (kinds starts list pins nets : List ℕ) (at c : ℕ) (w ws : List ℕ) (t : Tally) (w' ws' : List ℕ) (r : Counted)
+pub cell_flagged : (kinds starts list pins nets : List ℕ) (at c : ℕ) (w ws : List ℕ) (t : Tally) (w' ws' : List ℕ) (r : Option Tally)
     → Flagged (length list) at
     (over (flag_if (tables kinds starts list pins nets) (kind_at (get_or kinds c 0))) (drafted ws t) (take (get_or starts (c + 1) 0 - get_or starts c 0) (drop (get_or starts c 0) list)))
     w ws t w' ws' r
@@ -259,25 +244,24 @@ module _ (kinds starts list pins nets : List ℕ) (at : ℕ) where
     abbrev g : List Driver → ℕ → List Driver
     g = flags_of (tables kinds starts list pins nets)
 
-    pub cells_state : Flagging (length list) at w ws t
-    cells_state = passing_state g (length list) at (upto (length kinds)) w₀ ws₀ t₀ w ws t c p
-
     final : over g (drafted ws₀ t₀) (upto (length kinds)) ≡ step1 (tables kinds starts list pins nets)
     final = ap (λ (ds : List Driver). over g ds (upto (length kinds))) b.alone ∙ all_flagged (tables kinds starts list pins nets)
 
-    pub cells_end : length kinds ≤ c → Flagged (length list) at (step1 (tables kinds starts list pins nets)) w₀ ws₀ t₀ w ws (fitting t)
-    cells_end l = subst (λ (ds : List Driver). Flagged (length list) at ds w₀ ws₀ t₀ w ws (fitting t)) final
+    pub cells_end : length kinds ≤ c → Flagged (length list) at (step1 (tables kinds starts list pins nets)) w₀ ws₀ t₀ w ws (Some t)
+    cells_end l = subst (λ (ds : List Driver). Flagged (length list) at ds w₀ ws₀ t₀ w ws (Some t)) final
         (passing_ends g (length list) at (upto (length kinds)) w₀ ws₀ t₀ w ws t c p (omega (arith, l, length-upto (length kinds))))
 
-    module _ (l : c < length kinds) (w₁ ws₁ : List ℕ) (r : Counted)
-        (s : Flagged (length list) at (flags_of (tables kinds starts list pins nets) (drafted ws t) c) w ws t w₁ ws₁ r) where
-      there : Flagged (length list) at (g (drafted ws t) (get_or (upto (length kinds)) c 0)) w ws t w₁ ws₁ r
-      there = subst (λ (x : ℕ). Flagged (length list) at (g (drafted ws t) x) w ws t w₁ ws₁ r) (sym (at_upto (length kinds) c l)) s
+    module _ (l : c < length kinds) (w₁ ws₁ : List ℕ) where
+      there : (r : Option Tally) → Flagged (length list) at (flags_of (tables kinds starts list pins nets) (drafted ws t) c) w ws t w₁ ws₁ r
+          → Flagged (length list) at (g (drafted ws t) (get_or (upto (length kinds)) c 0)) w ws t w₁ ws₁ r
+      there r s = subst (λ (x : ℕ). Flagged (length list) at (g (drafted ws t) x) w ws t w₁ ws₁ r) (sym (at_upto (length kinds) c l)) s
 
-      pub cells_go_on : r.fits ≡ true → PassingCells w₀ ws₀ t₀ w₁ ws₁ r.tally (c + 1)
-      cells_go_on y = passing_goes_on g (length list) at (upto (length kinds)) w₀ ws₀ t₀ w ws t c p (omega (arith, l, length-upto (length kinds))) w₁ ws₁ r there y
+      pub cells_go_on : (u : Tally) → Flagged (length list) at (flags_of (tables kinds starts list pins nets) (drafted ws t) c) w ws t w₁ ws₁ (Some u)
+          → PassingCells w₀ ws₀ t₀ w₁ ws₁ u (c + 1)
+      cells_go_on u s = passing_goes_on g (length list) at (upto (length kinds)) w₀ ws₀ t₀ w ws t c p (omega (arith, l, length-upto (length kinds))) w₁ ws₁ u (there (Some u) s)
 
-      pub cells_stop : r.fits ≡ false → Flagged (length list) at (step1 (tables kinds starts list pins nets)) w₀ ws₀ t₀ w₁ ws₁ r
-      cells_stop f = subst (λ (ds : List Driver). Flagged (length list) at ds w₀ ws₀ t₀ w₁ ws₁ r) final
-          (passing_stops g (length list) at (upto (length kinds)) w₀ ws₀ t₀ w ws t c p (omega (arith, l, length-upto (length kinds))) w₁ ws₁ r there
-          (longer_cell (tables kinds starts list pins nets)) f)
+      pub cells_stop : Flagged (length list) at (flags_of (tables kinds starts list pins nets) (drafted ws t) c) w ws t w₁ ws₁ None
+          → Flagged (length list) at (step1 (tables kinds starts list pins nets)) w₀ ws₀ t₀ w₁ ws₁ None
+      cells_stop s = subst (λ (ds : List Driver). Flagged (length list) at ds w₀ ws₀ t₀ w₁ ws₁ None) final
+          (passing_stops g (length list) at (upto (length kinds)) w₀ ws₀ t₀ w ws t c p (omega (arith, l, length-upto (length kinds))) w₁ ws₁
+          (longer_cell (tables kinds starts list pins nets)) (there None s))

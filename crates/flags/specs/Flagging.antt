@@ -1,5 +1,5 @@
 -- Step 1 over the driver table and the work words: the flags that are there, and what is left of them when more are made.
-use Rattle.std.specs.Prelude.{◌≡◌, true, false, List, [], ◌∷◌, ℕ, ◌*◌, ◌<◌, ◌≤◌, length, get_or, if◌then◌else◌}
+use Rattle.std.specs.Prelude.{◌≡◌, Option, Some, None, List, [], ◌∷◌, ℕ, ◌*◌, ◌<◌, ◌≤◌, length, get_or, if◌then◌else◌}
 use Rattle.laws.specs.Lists.{over}
 use Rattle.rules.specs.declared.Edge.{Edge}
 use Rattle.rules.specs.declared.Driver.{Driver}
@@ -12,7 +12,6 @@ use Rattle.clocks.specs.declared.WalkEnd.{WalkEnd}
 use Rattle.clocks.specs.declared.WalkEnd.TheVariants.{Still, Root, Strange, Far}
 use Rattle.drafts.specs.Table.{Table, drafted, SameEnds}
 use Rattle.drafts.specs.Layout.{Flags}
-use Rattle.drafts.specs.declared.Counted.{Counted}
 
 -- ---- step 1, as the code takes it
 abbrev pub flag_at : List Driver → WalkEnd → List Driver
@@ -47,10 +46,10 @@ pub record FlagsOnly (m at : ℕ) (w w' : List ℕ) : Type 0 where
   pub after : (j : ℕ) → 6 * m ≤ j → j < at → get_or w' j 0 ≡ get_or w j 0
 
 -- the drivers are these now; or the table has no room for them
-pub data Flagged (m at : ℕ) (ds : List Driver) (w ws : List ℕ) (t : Tally) (w' ws' : List ℕ) (r : Counted) : Type 0 where
-  made : r.fits ≡ true → Flagging m at w' ws' r.tally → drafted ws' r.tally ≡ ds → SameEnds t r.tally → FlagsOnly m at w w'
+pub data Flagged (m at : ℕ) (ds : List Driver) (w ws : List ℕ) (t : Tally) (w' ws' : List ℕ) (r : Option Tally) : Type 0 where
+  made : (t' : Tally) → r ≡ Some t' → Flagging m at w' ws' t' → drafted ws' t' ≡ ds → SameEnds t t' → FlagsOnly m at w w'
       → length ws' ≡ length ws → Flagged m at ds w ws t w' ws' r
-  full : r.fits ≡ false → length ws < 3 * length ds → length w' ≡ length w → length ws' ≡ length ws → Flagged m at ds w ws t w' ws' r
+  full : r ≡ None → length ws < 3 * length ds → length w' ≡ length w → length ws' ≡ length ws → Flagged m at ds w ws t w' ws' r
 
 -- only pin 0 is there, and no flag
 pub record Blank (m at : ℕ) (w ws : List ℕ) (t : Tally) : Type 0 where

@@ -5,17 +5,18 @@
 ghost use Rattle.std.specs.Prelude.{◌≡◌, ℕ, ◌+◌, ◌-◌, ◌*◌, ◌<◌, ◌≤◌, length, get_or, take, drop};
 ghost use Rattle.laws.specs.Lists.{over};
 ghost use Rattle.rules.specs.Build.{flag_for, step1};
-ghost use Rattle.roles.specs.Reading.{tables, Fits, kind_at};
+ghost use Rattle.rules.specs.Tables.{netlist_in};
+ghost use Rattle.roles.specs.Reading.{Fits, kind_at};
 ghost use Rattle.clocks.specs.Walks.{Span};
 ghost use Rattle.drafts.specs.Table.{drafted};
 ghost use Rattle.flags.specs.Flagging.{Flagging, Flagged, PortWithin, flag_at, flag_if, flags_of, Blank};
 
 use clocks::numbers::is_clock;
 use clocks::{WalkEnd, trace_clock_pin};
-use drafts::{Counted, push};
+use drafts::push;
 use drivers::edge_word;
 use roles::pin_word;
-use rules::{Driver, Edge, Tally};
+use rules::{Driver, Edge, NetlistTables, Tally};
 
 // The flag of a port and an edge, made where it is new.
 fn add_flag(
@@ -26,7 +27,7 @@ fn add_flag(
     t: Tally,
     q: u32,
     e: Edge,
-) -> Counted
+) -> Option<Tally>
     requires flagging { Flagging m at work.old drivers.old t }
     requires q_lt_m { q < m }
     ensures { Flagged m at (flag_for (drafted drivers.old t) q e).drivers work.old drivers.old t work.new drivers.new result }
@@ -36,25 +37,11 @@ fn add_flag(
     let place = 4 * m + 2 * port + edge;
     let old = work[place];
     if old != 0 {
-        return Counted {
-            fits: true,
-            tally: t,
-        };
+        return Some(t);
     }
-    let step = push(drivers, work, at, t, Driver::Flag(q, e));
-    let tally = step.tally;
-    if !step.fits {
-        return Counted {
-            fits: false,
-            tally: tally,
-        };
-    }
-    let pin = tally.pins;
-    work[place] = pin;
-    Counted {
-        fits: true,
-        tally: tally,
-    }
+    let step = push(drivers, work, at, t, Driver::Flag(q, e))?;
+    work[place] = step.tally.pins;
+    Some(step.tally)
 }
 
 // The flag at the end of a walk.
@@ -65,159 +52,101 @@ fn end_flag(
     at: usize,
     t: Tally,
     end: WalkEnd,
-) -> Counted
+) -> Option<Tally>
     requires flagging { Flagging m at work.old drivers.old t }
     requires port_within { PortWithin m end }
     ensures { Flagged m at (flag_at (drafted drivers.old t) end) work.old drivers.old t work.new drivers.new result }
 {
     match end {
-        WalkEnd::Still => Counted {
-            fits: true,
-            tally: t,
-        },
         WalkEnd::Root(q, e) => add_flag(drivers, work, m, at, t, q, e),
-        WalkEnd::Strange => Counted {
-            fits: true,
-            tally: t,
-        },
-        WalkEnd::Far => Counted {
-            fits: true,
-            tally: t,
-        },
+        WalkEnd::Still | WalkEnd::Strange | WalkEnd::Far => Some(t),
     }
 }
 
 // The flag of a pin, where a cell of this kind has it as a clock.
 fn pin_flag(
-    kinds: &[u32],
-    starts: &[u32],
-    list: &[u32],
-    pins: &[u32],
-    nets: &[u32],
+    n: NetlistTables,
     drivers: &mut [u32],
     work: &mut [u32],
     at: usize,
     t: Tally,
     kind: u32,
     p: u32,
-) -> Counted
-    requires fits { Fits (tables kinds.now starts.now list.now pins.now nets.now) }
-    requires flagging { Flagging (length list.now) at work.old drivers.old t }
-    requires p_in_bounds { p < length list.now }
-    ensures { Flagged (length list.now) at (flag_if (tables kinds.now starts.now list.now pins.now nets.now) (kind_at kind) (drafted drivers.old t) p) work.old drivers.old t work.new drivers.new result }
+) -> Option<Tally>
+    requires fits { Fits (netlist_in n) }
+    requires flagging { Flagging (length n.list.now) at work.old drivers.old t }
+    requires p_in_bounds { p < length n.list.now }
+    ensures { Flagged (length n.entry.list.now) at (flag_if (netlist_in n.entry) (kind_at kind) (drafted drivers.old t) p) work.old drivers.old t work.new drivers.new result }
 {
-    let name = pin_word(pins, p, 1);
+    let name = pin_word(n.pins, p, 1);
     let clock = is_clock(kind, name);
     if !clock {
-        return Counted {
-            fits: true,
-            tally: t,
-        };
+        return Some(t);
     }
-    let walk = trace_clock_pin(kinds, starts, list, pins, nets, p, 0);
-    let end = walk.end;
-    let m = list.len();
-    end_flag(drivers, work, m, at, t, end)
+    let walk = trace_clock_pin(n, p, 0);
+    end_flag(drivers, work, n.list.len(), at, t, walk.end)
 }
 
-// The flags of n entries from a place on, of a cell of this kind.
+// The flags of so many entries from a place on, of a cell of this kind.
 fn list_flags(
-    kinds: &[u32],
-    starts: &[u32],
-    list: &[u32],
-    pins: &[u32],
-    nets: &[u32],
+    n: NetlistTables,
     drivers: &mut [u32],
     work: &mut [u32],
     at: usize,
     t: Tally,
     kind: u32,
     from: usize,
-    n: usize,
-) -> Counted
-    requires fits { Fits (tables kinds.now starts.now list.now pins.now nets.now) }
-    requires flagging { Flagging (length list.now) at work.old drivers.old t }
-    requires span { Span list.now «from» n }
-    ensures { Flagged (length list.now) at (over (flag_if (tables kinds.now starts.now list.now pins.now nets.now) (kind_at kind)) (drafted drivers.old t) (take n (drop «from» list.now))) work.old drivers.old t work.new drivers.new result }
+    count: usize,
+) -> Option<Tally>
+    requires fits { Fits (netlist_in n) }
+    requires flagging { Flagging (length n.list.now) at work.old drivers.old t }
+    requires span { Span n.list.now «from» count }
+    ensures { Flagged (length n.entry.list.now) at (over (flag_if (netlist_in n.entry) (kind_at kind)) (drafted drivers.old t) (take count (drop «from» n.entry.list.now))) work.old drivers.old t work.new drivers.new result }
 {
     let mut tally = t;
-    let mut i = 0;
-    while i < n {
-        let p = list[from + i];
-        let step = pin_flag(
-            kinds, starts, list, pins, nets, drivers, work, at, tally, kind, p,
-        );
-        if !step.fits {
-            return step;
-        }
-        let more = step.tally;
-        tally = more;
-        i += 1;
+    for i in 0..count {
+        let p = n.list[from + i];
+        tally = pin_flag(n, drivers, work, at, tally, kind, p)?;
     }
-    Counted {
-        fits: true,
-        tally: tally,
-    }
+    Some(tally)
 }
 
 // The flags of a cell's clocks, in list order.
 fn cell_flags(
-    kinds: &[u32],
-    starts: &[u32],
-    list: &[u32],
-    pins: &[u32],
-    nets: &[u32],
+    n: NetlistTables,
     drivers: &mut [u32],
     work: &mut [u32],
     at: usize,
     t: Tally,
     cell: usize,
-) -> Counted
-    requires fits { Fits (tables kinds.now starts.now list.now pins.now nets.now) }
-    requires flagging { Flagging (length list.now) at work.old drivers.old t }
-    requires cell_in_bounds { cell < length kinds.now }
-    ensures { Flagged (length list.now) at (flags_of (tables kinds.now starts.now list.now pins.now nets.now) (drafted drivers.old t) cell) work.old drivers.old t work.new drivers.new result }
+) -> Option<Tally>
+    requires fits { Fits (netlist_in n) }
+    requires flagging { Flagging (length n.list.now) at work.old drivers.old t }
+    requires cell_in_bounds { cell < length n.kinds.now }
+    ensures { Flagged (length n.entry.list.now) at (flags_of (netlist_in n.entry) (drafted drivers.old t) cell) work.old drivers.old t work.new drivers.new result }
 {
-    let kind = kinds[cell];
-    let from = starts[cell] as usize;
-    let end = starts[cell + 1] as usize;
-    let n = end - from;
-    list_flags(
-        kinds, starts, list, pins, nets, drivers, work, at, t, kind, from, n,
-    )
+    let kind = n.kinds[cell];
+    let from = n.starts[cell] as usize;
+    let end = n.starts[cell + 1] as usize;
+    let count = end - from;
+    list_flags(n, drivers, work, at, t, kind, from, count)
 }
 
 // The flags of all clocks, cells upward.
 pub fn clock_flags(
-    kinds: &[u32],
-    starts: &[u32],
-    list: &[u32],
-    pins: &[u32],
-    nets: &[u32],
+    n: NetlistTables,
     drivers: &mut [u32],
     work: &mut [u32],
     at: usize,
     t: Tally,
-) -> Counted
-    requires fits { Fits (tables kinds.now starts.now list.now pins.now nets.now) }
-    requires blank { Blank (length list.now) at work.old drivers.old t }
-    ensures { Flagged (length list.now) at (step1 (tables kinds.now starts.now list.now pins.now nets.now)) work.old drivers.old t work.new drivers.new result }
+) -> Option<Tally>
+    requires fits { Fits (netlist_in n) }
+    requires blank { Blank (length n.list.now) at work.old drivers.old t }
+    ensures { Flagged (length n.entry.list.now) at (step1 (netlist_in n.entry)) work.old drivers.old t work.new drivers.new result }
 {
     let mut tally = t;
-    let mut cell = 0;
-    while cell < kinds.len() {
-        let step = cell_flags(
-            kinds, starts, list, pins, nets, drivers, work, at, tally, cell,
-        );
-        if !step.fits {
-            return step;
-        }
-        let more = step.tally;
-        tally = more;
-        cell += 1;
+    for cell in 0..n.kinds.len() {
+        tally = cell_flags(n, drivers, work, at, tally, cell)?;
     }
-    Counted {
-        fits: true,
-        tally: tally,
-    }
+    Some(tally)
 }

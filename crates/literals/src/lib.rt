@@ -6,13 +6,14 @@ ghost use Rattle.laws.specs.Lists.{first_or};
 ghost use Rattle.rules.specs.declared.Driver.TheVariants.{Port};
 ghost use Rattle.rules.specs.Netlist.{named};
 ghost use Rattle.rules.specs.Graph.{opposite_if, and_of};
-ghost use Rattle.roles.specs.Reading.{tables, Fits};
+ghost use Rattle.rules.specs.Tables.{netlist_in};
+ghost use Rattle.roles.specs.Reading.{Fits};
 ghost use Rattle.drafts.specs.Table.{Table, drafted, pushed, set_reset};
-ghost use Rattle.literals.specs.Settled.{word_at, Settles, Left, turned_made};
+ghost use Rattle.literals.specs.Settled.{word_at, Left, turned_made};
 
-use drafts::{Added, Counted, and_of, push, set_reset};
-use roles::{Entry, cell_entry};
-use rules::{Driver, Literal, Tally};
+use drafts::{and_of, push, set_reset};
+use roles::cell_entry;
+use rules::{Driver, Literal, NetlistTables, Tally};
 
 pub fn literal_at(work: &[u32], m: usize, p: u32) -> Literal
     requires { 7 * m + p < length work.now }
@@ -34,31 +35,7 @@ pub fn put_literal(work: &mut [u32], m: usize, p: u32, lit: Literal)
 fn turned(x: bool, lit: Literal) -> Literal
     ensures { result.word ≡ opposite_if x lit.word }
 {
-    if x {
-        return lit.opposite();
-    }
-    lit
-}
-
-// What a step gives becomes the literal of a pin, or its opposite.
-fn settle(work: &mut [u32], m: usize, p: u32, step: Added, z: bool) -> Counted
-    requires { 7 * m + p < length work.old }
-    ensures { Settles m p z work.old step work.new result }
-{
-    let tally = step.tally;
-    if !step.fits {
-        return Counted {
-            fits: false,
-            tally: tally,
-        };
-    }
-    let lit = step.lit;
-    let out = turned(z, lit);
-    put_literal(work, m, p, out);
-    Counted {
-        fits: true,
-        tally: tally,
-    }
+    if x { lit.opposite() } else { lit }
 }
 
 // The output of an input port: a pin of its own.
@@ -69,13 +46,14 @@ pub fn port_out(
     at: usize,
     t: Tally,
     p: u32,
-) -> Counted
+) -> Option<Tally>
     requires table { Table at work.old drivers.old t }
     requires p_bound { 7 * m + p < at }
     ensures { Left at m p (pushed (drafted drivers.old t) (Port p)) work.old drivers.old t work.new drivers.new result }
 {
-    let step = push(drivers, work, at, t, Driver::Port(p));
-    settle(work, m, p, step, false)
+    let step = push(drivers, work, at, t, Driver::Port(p))?;
+    put_literal(work, m, p, step.lit);
+    Some(step.tally)
 }
 
 // The literal of a pin, or its opposite where x says so.
@@ -98,13 +76,15 @@ fn and_left(
     a: Literal,
     b: Literal,
     z: bool,
-) -> Counted
+) -> Option<Tally>
     requires table { Table at work.old drivers.old t }
     requires p_bound { 7 * m + p < at }
     ensures { Left at m p (turned_made z (and_of (drafted drivers.old t) a.word b.word)) work.old drivers.old t work.new drivers.new result }
 {
-    let step = and_of(drivers, work, at, t, a, b);
-    settle(work, m, p, step, z)
+    let step = and_of(drivers, work, at, t, a, b)?;
+    let out = turned(z, step.lit);
+    put_literal(work, m, p, out);
+    Some(step.tally)
 }
 
 // The output of an AND2: ((A xor x) and (B xor y)) xor z.
@@ -120,7 +100,7 @@ pub fn and_out(
     z: bool,
     a: u32,
     b: u32,
-) -> Counted
+) -> Option<Tally>
     requires table { Table at work.old drivers.old t }
     requires p_bound { 7 * m + p < at }
     requires a_bound { 7 * m + a < at }
@@ -133,26 +113,15 @@ pub fn and_out(
 }
 
 // The literal of a cell's pin of this name; where it has none, the literal that stands for it.
-fn named_literal(
-    kinds: &[u32],
-    starts: &[u32],
-    list: &[u32],
-    pins: &[u32],
-    nets: &[u32],
-    work: &[u32],
-    cell: u32,
-    name: u32,
-    absent: u32,
-) -> Literal
-    requires fits { Fits (tables kinds.now starts.now list.now pins.now nets.now) }
-    requires cell_in_bounds { cell < length kinds.now }
-    requires list_in_bounds { 8 * length list.now ≤ length work.now }
-    ensures { result.word ≡ first_or absent (word_at work.now (length list.now)) (named (tables kinds.now starts.now list.now pins.now nets.now) cell name) }
+pub fn named_literal(n: NetlistTables, work: &[u32], cell: u32, name: u32, absent: u32) -> Literal
+    requires fits { Fits (netlist_in n) }
+    requires cell_in_bounds { cell < length n.kinds.now }
+    requires list_in_bounds { 8 * length n.list.now ≤ length work.now }
+    ensures { result.word ≡ first_or absent (word_at work.now (length n.entry.list.now)) (named (netlist_in n.entry) cell name) }
 {
-    let entry = cell_entry(starts, list, pins, cell, name, name, 0);
-    match entry {
-        Entry::Pin(q) => literal_at(work, list.len(), q),
-        Entry::Absent => Literal { word: absent },
+    match cell_entry(n.starts, n.list, n.pins, cell, name, name, 0) {
+        Some(q) => literal_at(work, n.list.len(), q),
+        None => Literal { word: absent },
     }
 }
 
@@ -167,22 +136,19 @@ fn flop_left(
     v: Literal,
     s: Literal,
     r: Literal,
-) -> Counted
+) -> Option<Tally>
     requires table { Table at work.old drivers.old t }
     requires p_bound { 7 * m + p < at }
     ensures { Left at m p (set_reset (drafted drivers.old t) v.word s.word r.word) work.old drivers.old t work.new drivers.new result }
 {
-    let step = set_reset(drivers, work, at, t, v, s, r);
-    settle(work, m, p, step, false)
+    let step = set_reset(drivers, work, at, t, v, s, r)?;
+    put_literal(work, m, p, step.lit);
+    Some(step.tally)
 }
 
 // The output of a flip-flop whose own pin is `own`: its stored bit, as its set and reset let it through.
 pub fn flop_out(
-    kinds: &[u32],
-    starts: &[u32],
-    list: &[u32],
-    pins: &[u32],
-    nets: &[u32],
+    n: NetlistTables,
     drivers: &mut [u32],
     work: &mut [u32],
     at: usize,
@@ -190,28 +156,18 @@ pub fn flop_out(
     p: u32,
     cell: u32,
     own: u32,
-) -> Counted
-    requires fits { Fits (tables kinds.now starts.now list.now pins.now nets.now) }
-    requires cell_in_bounds { cell < length kinds.now }
+) -> Option<Tally>
+    requires fits { Fits (netlist_in n) }
+    requires cell_in_bounds { cell < length n.kinds.now }
     requires own_bound { own ≤ 16777215 }
-    requires list_bound { 8 * length list.now ≤ at }
-    requires p_in_bounds { p < length list.now }
+    requires list_bound { 8 * length n.list.now ≤ at }
+    requires p_in_bounds { p < length n.list.now }
     requires table { Table at work.old drivers.old t }
-    ensures { Left at (length list.now) p (set_reset (drafted drivers.old t) (2 * own) (first_or 1 (word_at work.old (length list.now)) (named (tables kinds.now starts.now list.now pins.now nets.now) cell 6)) (first_or 1 (word_at work.old (length list.now)) (named (tables kinds.now starts.now list.now pins.now nets.now) cell 7))) work.old drivers.old t work.new drivers.new result }
+    ensures { Left at (length n.entry.list.now) p (set_reset (drafted drivers.old t) (2 * own) (first_or 1 (word_at work.old (length n.entry.list.now)) (named (netlist_in n.entry) cell 6)) (first_or 1 (word_at work.old (length n.entry.list.now)) (named (netlist_in n.entry) cell 7))) work.old drivers.old t work.new drivers.new result }
 {
-    let set = named_literal(kinds, starts, list, pins, nets, work, cell, 6, 1);
-    let reset = named_literal(kinds, starts, list, pins, nets, work, cell, 7, 1);
-    let stored = 2 * own;
-    let m = list.len();
-    flop_left(
-        drivers,
-        work,
-        m,
-        at,
-        t,
-        p,
-        Literal { word: stored },
-        set,
-        reset,
-    )
+    let set = named_literal(n, work, cell, 6, 1);
+    let reset = named_literal(n, work, cell, 7, 1);
+    let stored = Literal { word: 2 * own };
+    let m = n.list.len();
+    flop_left(drivers, work, m, at, t, p, stored, set, reset)
 }

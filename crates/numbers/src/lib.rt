@@ -4,7 +4,6 @@
 ghost use Rattle.std.specs.Prelude.{◌≡◌, ℕ, ◌+◌, ◌<◌, ◌≤◌, length, get_or, set};
 ghost use Rattle.numbers.specs.Numbering.{counted, numbered, flops_counted, rams_counted};
 
-use drafts::Counted;
 use rules::Tally;
 use tallies::{dff_made, ram_made};
 
@@ -25,49 +24,29 @@ pub fn number_cell(work: &mut [u32], place: usize, made: u32) -> u32
 }
 
 // The tallies with so many flip-flops, where there is room for them.
-pub fn count_flops(t: Tally, count: u32, room: u32) -> Counted
+pub fn count_flops(t: Tally, count: u32, room: u32) -> Option<Tally>
     requires { room ≤ 1048576 }
     ensures { result ≡ flops_counted t count room }
 {
     if count == t.dffs {
-        return Counted {
-            fits: true,
-            tally: t,
-        };
+        return Some(t);
     }
     if room <= t.dffs {
-        return Counted {
-            fits: false,
-            tally: t,
-        };
+        return None;
     }
-    let more = dff_made(t);
-    Counted {
-        fits: true,
-        tally: more,
-    }
+    Some(dff_made(t))
 }
 
 // The same of RAMs.
-pub fn count_rams(t: Tally, count: u32, room: u32) -> Counted
+pub fn count_rams(t: Tally, count: u32, room: u32) -> Option<Tally>
     requires { room ≤ 1048576 }
     ensures { result ≡ rams_counted t count room }
 {
     if count == t.rams {
-        return Counted {
-            fits: true,
-            tally: t,
-        };
+        return Some(t);
     }
     if room <= t.rams {
-        return Counted {
-            fits: false,
-            tally: t,
-        };
+        return None;
     }
-    let more = ram_made(t);
-    Counted {
-        fits: true,
-        tally: more,
-    }
+    Some(ram_made(t))
 }

@@ -1,20 +1,14 @@
-use Rattle.flags.proofs.Passing.{cells_begin, cells_state, cells_go_on, cells_stop, cells_end}
-use borrow.Author.Tests.{not-true, not-false}
-use borrow.Author.Rules.{rules}
-use native.Mathlib.Omega.{arith}
+use Rattle.flags.proofs.Passing.{cells_begin, cells_go_on, cells_stop, cells_end}
 use Rattle.flags.proofs.clock_flags.Goals as goal
 
 pub loop-cell-init : goal.loop-cell-init
-loop-cell-init c = (search cells_begin, search rules, omega arith, search rules, search rules)
+loop-cell-init c = search cells_begin
 
-pub cell_flags-step-requires : goal.cell_flags-step-requires
-cell_flags-step-requires c = record { fits = search rules; flagging = search cells_state; cell_in_bounds = omega arith }
-
-pub returns-then-not-step : goal.returns-then-not-step
-returns-then-not-step c = search (cells_stop, not-true)
+pub returns-in_err-tally : goal.returns-in_err-tally
+returns-in_err-tally c = rw c.from_residual.ensures (search (cells_stop, c.in_err-tally.ensures))
 
 pub loop-cell-preserved : goal.loop-cell-preserved
-loop-cell-preserved c = (search (cells_go_on, not-false), search rules, omega arith, search rules, search rules)
+loop-cell-preserved c = search (cells_go_on, c.in_ok-tally.ensures)
 
 pub returns : goal.returns
 returns c = search cells_end

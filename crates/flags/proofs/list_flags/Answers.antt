@@ -1,21 +1,14 @@
-use Rattle.flags.proofs.Passing.{list_begins, list_state, list_goes_on, list_stops, list_ends}
-use Rattle.clocks.proofs.Numbering.{span_below}
-use borrow.Author.Tests.{not-true, not-false}
-use borrow.Author.Rules.{rules}
-use native.Mathlib.Omega.{arith}
+use Rattle.flags.proofs.Passing.{list_begins, list_goes_on, list_stops, list_ends}
 use Rattle.flags.proofs.list_flags.Goals as goal
 
 pub loop-i-init : goal.loop-i-init
-loop-i-init c = (search list_begins, search rules, omega arith, omega arith, search rules, search rules)
+loop-i-init c = search list_begins
 
-pub pin_flag-step-requires : goal.pin_flag-step-requires
-pin_flag-step-requires c = record { fits = search rules; flagging = search list_state; p_in_bounds = search span_below }
-
-pub returns-then-not-step : goal.returns-then-not-step
-returns-then-not-step c = search (list_stops, not-true)
+pub returns-in_err-tally : goal.returns-in_err-tally
+returns-in_err-tally c = rw c.from_residual.ensures (search (list_stops, c.in_err-tally.ensures))
 
 pub loop-i-preserved : goal.loop-i-preserved
-loop-i-preserved c = (search (list_goes_on, not-false), search rules, omega arith, omega arith, search rules, search rules)
+loop-i-preserved c = search (list_goes_on, c.in_ok-tally.ensures)
 
 pub returns : goal.returns
 returns c = search list_ends

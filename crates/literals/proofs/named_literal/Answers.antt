@@ -1,16 +1,15 @@
 use Rattle.literals.proofs.Settling.{entry_below, literal_there, literal-none}
 use Rattle.roles.proofs.Fitting.{laid}
-use native.Mathlib.Omega.{arith}
 use Rattle.literals.proofs.named_literal.Goals as goal
 
-pub cell_entry-entry-requires : goal.cell_entry-entry-requires
-cell_entry-entry-requires c = record { laid = search laid; cell_in_bounds = omega arith }
+pub cell_entry-requires-clause-laid : goal.cell_entry-requires-clause-laid
+cell_entry-requires-clause-laid c = search laid
 
 pub literal_at-requires : goal.literal_at-requires
-literal_at-requires c = search entry_below
+literal_at-requires c = search (entry_below, c.in-Some.ensures)
 
-pub returns-in-Pin : goal.returns-in-Pin
-returns-in-Pin c = search literal_there
+pub returns-in-Some : goal.returns-in-Some
+returns-in-Some c = search (literal_there, c.in-Some.ensures)
 
-pub returns-in-Absent : goal.returns-in-Absent
-returns-in-Absent c = search literal-none
+pub returns-in-None : goal.returns-in-None
+returns-in-None c = search (literal-none, c.in-None.ensures)

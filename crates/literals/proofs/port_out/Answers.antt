@@ -1,5 +1,5 @@
-use Rattle.literals.proofs.Settling.{port_left}
+use Rattle.literals.proofs.Settling.{left_plain}
 use Rattle.literals.proofs.port_out.Goals as goal
 
 pub returns : goal.returns
-returns c = search port_left
+returns c = search (left_plain, c.in_ok-step.ensures)
