@@ -2,7 +2,7 @@
 use mathlib.Core.Path.{◌≡◌, refl, sym, ap, subst, ◌∙◌}
 use mathlib.Core.Bool.{Bool, true, false, ◌&&◌}
 use mathlib.Core.List.{List, [], ◌∷◌, ◌++◌, append-nil, append_assoc}
-use Prim.Native.Nat.{ℕ, ◌+◌, ◌*◌, ◌<◌, ◌≤◌}
+use Prim.Native.Nat.{ℕ, ◌+◌, ◌*◌, ◌≤◌}
 use native.Mathlib.Omega.{arith}
 use lib.ListN.{length, get_or, length-append}
 use borrow.Author.Tests.{eq-eqb, eqb-true, le-leb, lt-leb}
@@ -18,27 +18,7 @@ use Rattle.laws.proofs.Words.{zeros_at, part_none, part_at, part_length, below_t
 use Rattle.rules.specs.Refusals.{below, no_repeat}
 use Rattle.walk.specs.State.{Stops, StopsSet}
 use Rattle.members.specs.Set.{SetIn, InsertedAll}
-use Rattle.asked.specs.Answer.{lists_fit, Room, Begun, begun, no_sets}
-
--- ---- 1, in turn
-module _ (c b l h t : ℕ) where
-  pub chosen_many : 16777215 < c → false ≡ lists_fit c b l h t
-  chosen_many x = sym (rw (lt-leb c 16777215 x))
-
-  module _ (lc : c ≤ 16777215) where
-    pub before_many : 16777215 < b → false ≡ lists_fit c b l h t
-    before_many x = sym (rw (le-leb c 16777215 lc, lt-leb b 16777215 x))
-
-    module _ (lb : b ≤ 16777215) where
-      pub level_high : 16777215 < l → false ≡ lists_fit c b l h t
-      level_high x = sym (rw (le-leb c 16777215 lc, le-leb b 16777215 lb, lt-leb l 16777215 x))
-
-      module _ (ll : l ≤ 16777215) where
-        pub handed_many : 16777215 < h → false ≡ lists_fit c b l h t
-        handed_many x = sym (rw (le-leb c 16777215 lc, le-leb b 16777215 lb, le-leb l 16777215 ll, lt-leb h 16777215 x))
-
-        pub lists_few : h ≤ 16777215 → (t ≤? 16777215) ≡ lists_fit c b l h t
-        lists_few x = sym (rw (le-leb c 16777215 lc, le-leb b 16777215 lb, le-leb l 16777215 ll, le-leb h 16777215 x))
+use Rattle.asked.specs.Answer.{Room, Begun, begun, no_sets}
 
 -- ---- as many members as numbers: then none repeats
 insert_few : (l s : List ℕ) → length (over insert s l) ≤ length s + length l

@@ -16,19 +16,11 @@ use words::zero;
 pub fn lists_fit(chosen: usize, before: usize, level: u32, handed: usize, taken: usize) -> bool
     ensures { result ≡ lists_fit chosen before level handed taken }
 {
-    if 16777215 < chosen {
-        return false;
-    }
-    if 16777215 < before {
-        return false;
-    }
-    if 16777215 < level {
-        return false;
-    }
-    if 16777215 < handed {
-        return false;
-    }
-    taken <= 16777215
+    chosen <= 16777215
+        && before <= 16777215
+        && level <= 16777215
+        && handed <= 16777215
+        && taken <= 16777215
 }
 
 // The chosen endpoints are those left, and the pins handed on before are stops. No where one is out of range or repeats.

@@ -18,7 +18,7 @@ use Rattle.cuts.proofs.Joining.{begun, join_by, join_yes, join_no}
 use Rattle.walk.specs.State.{goes, list_of, Going}
 use Rattle.members.specs.Set.{Within, SetIn, Inserted}
 use Rattle.members.proofs.Frames.{within_none, within_on, within_more}
-use Rattle.levels.specs.State.{stops_of, Known, Leads, nowhere, operands}
+use Rattle.levels.specs.State.{stops_of, Known, Operands}
 use Rattle.levels.proofs.Stops.{stops_same}
 use Rattle.joins.specs.State.{Holds, ReadAll, low_in, JoinedAll}
 use Rattle.joins.proofs.Reading.{read_none, read_on}
@@ -37,23 +37,20 @@ pub stops_kept : (m : ℕ) (v w : List ℕ) → Within (5 * m) (8 * m) v w → s
 stops_kept m v w k = stops_same v w m (λ p l. k.before (m + p) (omega arith))
 
 -- ---- what a gate reads
-module _ (ws : List ℕ) (m : ℕ) (w : List ℕ) (n u a b : ℕ) (s : SetIn w (6 * m) m n) (l : u < m) where
-  pub none_read : Leads ws m (stops_of w m) u a b → a ≡ 0 → ReadAll m w n (goes ws m (stops_of w m) u) w n
-  none_read (nowhere z e) _ = rw e (read_none m w n s)
-  none_read (operands ne la lb e) z = absurd (ne z)
+module _ (ws : List ℕ) (m : ℕ) (w : List ℕ) (n u : ℕ) (s : SetIn w (6 * m) m n) (l : u < m) where
+  pub none_read : goes ws m (stops_of w m) u ≡ [] → ReadAll m w n (goes ws m (stops_of w m) u) w n
+  none_read e = rw e (read_none m w n s)
 
-  pub first_below : Leads ws m (stops_of w m) u a b → (a ≡ 0 → ⊥) → a < m
-  first_below (nowhere z e) ne = absurd (ne z)
-  first_below (operands _ la lb e) ne = omega arith
+  module _ (a b : ℕ) (o : Operands ws m (stops_of w m) u a b) where
+    pub first_below : a < m
+    first_below = omega (arith, o.first_less)
 
-  pub second_below : Leads ws m (stops_of w m) u a b → (a ≡ 0 → ⊥) → b < m
-  second_below (nowhere z e) ne = absurd (ne z)
-  second_below (operands _ la lb e) ne = omega arith
+    pub second_below : b < m
+    second_below = omega (arith, o.second_less)
 
-  pub both_read : Leads ws m (stops_of w m) u a b → (a ≡ 0 → ⊥) → (w₁ : List ℕ) (n₁ : ℕ) (w₂ : List ℕ) (n₂ : ℕ) → ReadAll m w n (a ∷ []) w₁ n₁ → ReadAll m w₁ n₁ (b ∷ []) w₂ n₂
-      → ReadAll m w n (goes ws m (stops_of w m) u) w₂ n₂
-  both_read (nowhere z e) ne w₁ n₁ w₂ n₂ r₁ r₂ = absurd (ne z)
-  both_read (operands _ la lb e) ne w₁ n₁ w₂ n₂ r₁ r₂ = rw e (read_on m w n (a ∷ []) w₁ n₁ (b ∷ []) w₂ n₂ r₁ r₂)
+    pub both_read : (w₁ : List ℕ) (n₁ : ℕ) (w₂ : List ℕ) (n₂ : ℕ) → ReadAll m w n (a ∷ []) w₁ n₁ → ReadAll m w₁ n₁ (b ∷ []) w₂ n₂
+        → ReadAll m w n (goes ws m (stops_of w m) u) w₂ n₂
+    both_read w₁ n₁ w₂ n₂ r₁ r₂ = rw o.leads (read_on m w n (a ∷ []) w₁ n₁ (b ∷ []) w₂ n₂ r₁ r₂)
 
 pub read_set : (m : ℕ) (w : List ℕ) (n : ℕ) (os w' : List ℕ) (n' : ℕ) → ReadAll m w n os w' n' → SetIn w' (6 * m) m n'
 read_set m w n os w' n' r = r.holds

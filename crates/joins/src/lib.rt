@@ -106,10 +106,9 @@ fn read_operands(drivers: &[u32], work: &mut [u32], m: usize, n: usize, u: usize
     requires set_in { SetIn work.old (6 * m) m n }
     ensures { ReadAll m work.old n (goes drivers.now m (stops_of work.old m) u) work.new result }
 {
-    let o = operands_at(drivers, work, m, u);
-    if o.a == 0 {
+    let Some(o) = operands_at(drivers, work, m, u) else {
         return n;
-    }
+    };
     let fewer = read_one(work, m, n, o.a);
     read_one(work, m, fewer, o.b)
 }

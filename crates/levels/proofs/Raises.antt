@@ -1,5 +1,5 @@
 -- Where a pin leads, and a gate's level with the readers of its operands.
-use mathlib.Core.Path.{◌≡◌, refl, sym, ap, subst, ◌∙◌}
+use mathlib.Core.Path.{◌≡◌, sym, ap, subst, ◌∙◌}
 use mathlib.Core.List.{List, [], ◌∷◌}
 use Prim.Native.Nat.{ℕ, suc, ◌+◌, ◌*◌, ◌/◌, ◌<◌, ◌≤◌, max}
 use native.Mathlib.Numerals.{add-one}
@@ -15,26 +15,30 @@ use Rattle.laws.proofs.Words.{get_d_set, bump}
 use Rattle.walk.specs.State.{goes, tag_of, first_of, second_of}
 use Rattle.walk.proofs.Leads.{goes_stop, goes_source, goes_gate, operands_fit}
 use Rattle.members.proofs.Frames.{within_none, within-set}
-use Rattle.levels.specs.State.{stops_of, Known, Leads, nowhere, operands, Rises, raised, Raising, RaisedPin}
+use Rattle.levels.specs.State.{stops_of, Known, Operands, Rises, raised, Raising, RaisedPin}
 use Rattle.levels.proofs.Stops.{stop_member, stop_free}
 
 -- ---- where a pin leads
 module _ (ws : List ℕ) (m : ℕ) (w : List ℕ) (u : ℕ) (kn : Known ws m w) (l : u < m) (t : ℕ) (et : t ≡ get_or ws (3 * u) 0) where
-  pub leads_source : (t ≡ 1 → ⊥) → Leads ws m (stops_of w m) u 0 0
-  leads_source n = nowhere refl (goes_source ws m kn.low (stops_of w m) u l (λ e. n (et ∙ e)))
+  pub leads_source : (t ≡ 1 → ⊥) → goes ws m (stops_of w m) u ≡ []
+  leads_source n = goes_source ws m kn.low (stops_of w m) u l (λ e. n (et ∙ e))
 
   module _ (g : t ≡ 1) (s : ℕ) (es : s ≡ get_or w (m + u) 0) where
-    pub leads_stop : (s ≡ 0 → ⊥) → Leads ws m (stops_of w m) u 0 0
-    leads_stop n = nowhere refl (goes_stop ws m kn.low (stops_of w m) u (stop_member w m u l (λ z. n (es ∙ z))))
+    pub leads_stop : (s ≡ 0 → ⊥) → goes ws m (stops_of w m) u ≡ []
+    leads_stop n = goes_stop ws m kn.low (stops_of w m) u (stop_member w m u l (λ z. n (es ∙ z)))
 
-    pub leads_gate : s ≡ 0 → (x y : ℕ) → x ≡ get_or ws (3 * u + 1) 0 → y ≡ get_or ws (3 * u + 2) 0 → Leads ws m (stops_of w m) u (x / 2) (y / 2)
+    pub leads_gate : s ≡ 0 → (x y : ℕ) → x ≡ get_or ws (3 * u + 1) 0 → y ≡ get_or ws (3 * u + 2) 0 → Operands ws m (stops_of w m) u (x / 2) (y / 2)
     leads_gate z x y ex ey =
         let o = operands_fit ws m kn.low kn.fits in
         let tag : tag_of ws u ≡ 1 = sym et ∙ g in
         let xe : x / 2 ≡ first_of ws u = ap (λ (v : ℕ). v / 2) ex in
         let ye : y / 2 ≡ second_of ws u = ap (λ (v : ℕ). v / 2) ey in
-        operands (λ q. omega (arith, q, xe, o.first_low u l tag)) (omega (arith, xe, o.first_less u l tag)) (omega (arith, ye, o.second_less u l tag))
-        (goes_gate ws m kn.low (stops_of w m) u l (stop_free w m u (sym es ∙ z)) tag ∙ (λ i. sym xe i ∷ sym ye i ∷ []))
+        record {
+          first_not_zero = λ q. omega (arith, q, xe, o.first_low u l tag);
+          first_less = omega (arith, xe, o.first_less u l tag);
+          second_less = omega (arith, ye, o.second_less u l tag);
+          leads = goes_gate ws m kn.low (stops_of w m) u l (stop_free w m u (sym es ∙ z)) tag ∙ (λ i. sym xe i ∷ sym ye i ∷ []);
+        }
 
 -- ---- one more at a word
 pub bump_is : (w : List ℕ) (at v : ℕ) → v ≡ get_or w at 0 → set w at (v + 1) ≡ set w at (get_or w at 0 + 1)
@@ -89,24 +93,22 @@ module _ (w : List ℕ) (m u a b : ℕ) (r : Rises w m u a b) where
 
 -- ---- what they leave of one pin
 module _ (ws : List ℕ) (m : ℕ) (w : List ℕ) (u : ℕ) (g : Raising w m u) where
-  pub pin_nowhere : (a b : ℕ) → Leads ws m (stops_of w m) u a b → a ≡ 0 → RaisedPin ws m (stops_of w m) w u w
-  pin_nowhere a b (nowhere z e) _ = record {
+  pub pin_nowhere : goes ws m (stops_of w m) u ≡ [] → RaisedPin ws m (stops_of w m) w u w
+  pin_nowhere e = record {
     levels = λ p l. by_test (p == u)
         (λ t. ap (λ (x : ℕ). get_or w (4 * m + x) 0) (eqb-true p u t) ∙ g.zero ∙ sym (rw (t, e)))
         (λ f. sym (rw f));
     readers = λ p l. omega (arith, ap (count p) e);
     kept = within_none (4 * m) (6 * m) w;
   }
-  pin_nowhere a b (operands n la lb e) z = absurd (n z)
 
-  pub pin_rises : (a b : ℕ) → Leads ws m (stops_of w m) u a b → (a ≡ 0 → ⊥) → Rises w m u a b
-  pin_rises a b (nowhere z e) n = absurd (n z)
-  pin_rises a b (operands _ la lb e) n = record {
+  pub pin_rises : (a b : ℕ) → Operands ws m (stops_of w m) u a b → Rises w m u a b
+  pin_rises a b o = record {
     long = g.spare.long;
     few = g.few;
     inside = g.inside;
-    first = la;
-    second = lb;
+    first = o.first_less;
+    second = o.second_less;
     first_level = g.small a (omega (arith, g.inside));
     second_level = g.small b (omega (arith, g.inside));
     first_room = g.spare.room a (omega (arith, g.inside));
@@ -162,7 +164,6 @@ module _ (ws : List ℕ) (m : ℕ) (w : List ℕ) (u : ℕ) (g : Raising w m u) 
               (within-set (4 * m) (6 * m) w w (4 * m + u) h (omega arith) (omega arith) (within_none (4 * m) (6 * m) w)));
         }
 
-  pub pin_raised : (a b : ℕ) → Leads ws m (stops_of w m) u a b → (a ≡ 0 → ⊥) → (w' : List ℕ) → w' ≡ raised w m u a b → RaisedPin ws m (stops_of w m) w u w'
+  pub pin_raised : (a b : ℕ) → Operands ws m (stops_of w m) u a b → (w' : List ℕ) → w' ≡ raised w m u a b → RaisedPin ws m (stops_of w m) w u w'
   unfolding raised
-  pin_raised a b (nowhere z e) n w' q = absurd (n z)
-  pin_raised a b (operands _ la lb e) n w' q = subst (RaisedPin ws m (stops_of w m) w u) (sym q) (pin_done a b la lb e)
+  pin_raised a b o w' q = subst (RaisedPin ws m (stops_of w m) w u) (sym q) (pin_done a b o.first_less o.second_less o.leads)

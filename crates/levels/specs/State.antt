@@ -1,5 +1,5 @@
 -- The work words of a split, w, with one word for each of the m pins: levels from 4 * m, readers from 5 * m; from 8 * m on the endpoints left.
-use Rattle.std.specs.Prelude.{◌≡◌, true, List, [], ◌∷◌, ℕ, suc, ◌+◌, ◌-◌, ◌*◌, ◌/◌, ◌<◌, ◌≤◌, max, length, get_or, set, if◌then◌else◌, ◌==◌}
+use Rattle.std.specs.Prelude.{Option, Some, None, ◌≡◌, true, List, [], ◌∷◌, ℕ, suc, ◌+◌, ◌-◌, ◌*◌, ◌/◌, ◌<◌, ◌≤◌, max, length, get_or, set, if◌then◌else◌, ◌==◌}
 use Rattle.laws.specs.Tests.{◌<?◌}
 use Rattle.laws.specs.Lists.{count, member, keep, flat, over, upto}
 use Rattle.laws.specs.Search.{above, level}
@@ -11,6 +11,7 @@ use Rattle.rules.specs.Answers.{endpoints}
 use Rattle.walk.specs.State.{goes, list_of, Going}
 use Rattle.members.specs.Set.{Within}
 use Rattle.reads.specs.Reads.{reads_in, reads_long}
+use Rattle.levels.specs.declared.Pair.{Pair}
 
 -- the pins whose stops are set
 unfoldable pub stops_of : List ℕ → ℕ → List ℕ
@@ -52,10 +53,17 @@ pub record Gathered (ws : List ℕ) (m : ℕ) (before w : List ℕ) (k : ℕ) (p
   pub rest : (j : ℕ) → 6 * m ≤ j → get_or w' j 0 ≡ get_or w j 0
   pub long : length w' ≡ length w
 
+-- a gate's two operands
+pub record Operands (ws : List ℕ) (m : ℕ) (before : List ℕ) (u a b : ℕ) : Type 0 where
+  pub first_not_zero : a ≡ 0 → ⊥
+  pub first_less : a < u
+  pub second_less : b < u
+  pub leads : goes ws m before u ≡ a ∷ b ∷ []
+
 -- where a split goes from the pin u: nowhere, or to a gate's two operands
-pub data Leads (ws : List ℕ) (m : ℕ) (before : List ℕ) (u a b : ℕ) : Type 0 where
-  nowhere : a ≡ 0 → goes ws m before u ≡ [] → Leads ws m before u a b
-  operands : (a ≡ 0 → ⊥) → a < u → b < u → goes ws m before u ≡ a ∷ b ∷ [] → Leads ws m before u a b
+abbrev pub Leads : List ℕ → ℕ → List ℕ → ℕ → Option Pair → Type 0
+Leads ws m before u None = goes ws m before u ≡ []
+Leads ws m before u (Some o) = Operands ws m before u o.a o.b
 
 -- ---- levels
 -- what raising a gate's pin asks: smaller operands, levels that are at most their pins, and two readers more

@@ -95,30 +95,31 @@ pub fn visit_left(
     k
 }
 
-// The pins of a gate's operands; a is 0 where the pin is no gate, or was handed on before.
-#[derive(Drop)]
+// The pins of a gate's operands.
+#[derive(Clone, Copy)]
 pub struct Pair {
     pub a: u32,
     pub b: u32,
 }
 
-pub fn operands_at(drivers: &[u32], work: &[u32], m: usize, u: usize) -> Pair
+// None where the pin is no gate, or was handed on before.
+pub fn operands_at(drivers: &[u32], work: &[u32], m: usize, u: usize) -> Option<Pair>
     requires known { Known drivers.now m work.now }
     requires u_lt_m { u < m }
-    ensures { Leads drivers.now m (stops_of work.now m) u result.a result.b }
+    ensures { Leads drivers.now m (stops_of work.now m) u result }
 {
     let at = 3 * u;
     let tag = word(drivers, at);
     if tag != 1 {
-        return Pair { a: 0, b: 0 };
+        return None;
     }
     let stop = word(work, m + u);
     if stop != 0 {
-        return Pair { a: 0, b: 0 };
+        return None;
     }
     let x = word(drivers, at + 1);
     let y = word(drivers, at + 2);
-    Pair { a: x / 2, b: y / 2 }
+    Some(Pair { a: x / 2, b: y / 2 })
 }
 
 // One more than the larger of two levels.
@@ -153,10 +154,9 @@ fn level_pin(drivers: &[u32], work: &mut [u32], m: usize, u: usize)
     requires raising { Raising work.old m u }
     ensures { RaisedPin drivers.now m (stops_of work.old m) work.old u work.new }
 {
-    let o = operands_at(drivers, work, m, u);
-    if o.a == 0 {
+    let Some(o) = operands_at(drivers, work, m, u) else {
         return;
-    }
+    };
     raise(work, m, u, o.a as usize, o.b as usize);
 }
 
