@@ -10,14 +10,7 @@ use rules::{Driver, Tally};
 fn gates_of(d: Driver) -> u32
     ensures { result ≡ Rattle.tallies.specs.Counted.gates_of d }
 {
-    match d {
-        Driver::And(_, _) => 1,
-        Driver::Port(_) => 0,
-        Driver::Flag(_, _) => 0,
-        Driver::Dff(_) => 0,
-        Driver::Ram(_) => 0,
-        Driver::Constant => 0,
-    }
+    u32::from(matches!(d, Driver::And(_, _)))
 }
 
 // A pin is made with this driver.
@@ -26,10 +19,9 @@ pub fn pin_made(t: Tally, d: Driver) -> Tally
     requires gates_le_pins { t.gates ≤ t.pins }
     ensures { result ≡ pin_counted d t }
 {
-    let more = gates_of(d);
     Tally {
         pins: t.pins + 1,
-        gates: t.gates + more,
+        gates: t.gates + gates_of(d),
         ..t
     }
 }
