@@ -8,7 +8,8 @@ use native.Mathlib.Omega.{arith}
 use lib.ListN.{length, get_or, set, length-set, take, drop}
 use lib.Seq.{get_or-set_same, get_or-set_other}
 use borrow.Author.Tests.{eq-eqb, ne_eqb, lt-ltb, ltb-true, ltb-false, eqb-true, eqb-false, leb-true, leb-false}
-use Rattle.std.specs.Prelude.{Option, Some, None, OnSome, ◌==◌}
+use Rattle.std.specs.Prelude.{Option, Some, None, ◌==◌}
+use Rattle.std.proofs.lemmas.Option.{IfSome_then}
 use Rattle.laws.specs.Tests.{◌<?◌, ◌≤?◌}
 use Rattle.laws.specs.Lists.{count, member}
 use Rattle.laws.specs.Words.{part}
@@ -42,11 +43,6 @@ use Rattle.flops.proofs.Flopping.{pair_stops}
 use Rattle.rows.specs.Words.{plain_word}
 use Rattle.memories.specs.Remembered.{clock_at, clocks_made, reads_first, turned, ram_clocks, bits_made, BitsDone, enable_of, row_made, row_word, ClockedDone, ram_made, RowDone, RamDone, begun, fresh, short}
 use Rattle.memories.proofs.Begun.{begun_pin}
-
--- what follows where there is a value
-OnSome_then : {T P Q : Type 0} (r : Option T) → OnSome r P → (P → Q) → OnSome r Q
-OnSome_then (Some x) p f = f p
-OnSome_then None p f = tt
 
 -- ---- the clocks
 pub entry_keeps : (n : Netlist) (ds : List Driver) (e : Option ℕ) → Keeps ds (entry_traced n ds e).drivers
@@ -270,7 +266,7 @@ module _ (n : Netlist) (c k at : ℕ) (w ws : List ℕ) (t : Tally) (read write 
   pub row_done : ClockedDone n c k at w ws t read write rams w' ws' rams₃ r
   row_done = record {
     step = subst (λ (m : Made). Extends at m w ws t w' ws' r) (same_to 32 (omega arith)) h.step;
-    row = OnSome_then r h.words row_words_lem;
+    row = IfSome_then r h.words (λ _. row_words_lem);
     long = h.long ∙ ap length e₂ ∙ length-set rams₁ a read ∙ filled.long;
   }
 
@@ -307,7 +303,7 @@ module _ (n : Netlist) (at : ℕ) (w ws : List ℕ) (t : Tally) (c k : ℕ) (ram
     ram_then w₂ ws₂ rams₂ r d = record {
       step = goes_on at m w ws t w₁ ws₁ got after (ram_made n (drafted ws t) c 32) w₂ ws₂ r
           (subst (λ (y : Made). Extends at y w₁ ws₁ clocks.tally w₂ ws₂ r) (ap₂ (λ (ds : List Driver) (y : ℕ). row_made n c ds y 32) after.drivers after.lit) d.step);
-      row = OnSome_then r d.row (subst (λ (g : ℕ → ℕ). Writing rams (123 * k) g 123 rams₂) words_are);
+      row = IfSome_then r d.row (λ _. subst (λ (g : ℕ → ℕ). Writing rams (123 * k) g 123 rams₂) words_are);
       long = d.long;
     }
       where
