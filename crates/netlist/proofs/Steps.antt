@@ -16,7 +16,7 @@ use Rattle.pins.proofs.Steps.{ranged_cell}
 use Rattle.lists.specs.Parts.{laid, Starts, fitting, musts}
 use Rattle.lists.proofs.Steps.{starts_are}
 use Rattle.repeats.specs.Alike.{Sorted, Looked}
-use Rattle.netlist.specs.Tables.{without_nets, once, lists_right, Listed, ListsTested, alone, pins_right, pins_told, Long}
+use Rattle.netlist.specs.Tables.{without_nets, once, lists_right, Listed, ListsTested, alone, pins_right, Long}
 use Rattle.netlist.proofs.Once.{set-once, listed_facts}
 use Rattle.netlist.proofs.Apart.{sorted, looked_alone}
 
@@ -133,25 +133,7 @@ module _ (kinds starts list pins : List ℕ) (first : Bool) (ef : first ≡ ever
       musts_tell ts r e = e ∙ sym (allowed_parts ∙ rw (sym ef ∙ tf, sym alone_is ∙ ts))
 
 -- ---- 5
-module _ (kinds starts list pins work : List ℕ) (g : Long kinds starts list pins work) where
-  long_starts : length kinds < length starts
-  long_starts = omega (arith, g.starts_long)
-
-  long_pins : 5 * length list ≤ length pins
-  long_pins = omega (arith, g.pins_long)
-
-  module _ (nets : ℕ) (w' : List ℕ) (first : Bool) (e : ListsTested starts (length kinds) list pins nets w' first) where
-    pub lists_refuse : first ≡ false → false ≡ pins_told kinds starts list pins nets
-    unfolding pins_told
-    lists_refuse f = rw (sym e.answer ∙ f)
-
-    module _ (t : first ≡ true) where
-      pub now_listed : Listed starts list pins (length kinds)
-      now_listed = listed starts (length kinds) list pins nets long_starts long_pins (sym e.answer ∙ t)
-
-      pub still_clear : Clear w' (length list) 544
-      still_clear = e.clear t
-
-      pub pins_tell : (r : Bool) → r ≡ pins_right kinds starts list pins → r ≡ pins_told kinds starts list pins nets
-      unfolding pins_told
-      pins_tell r q = rw (sym e.answer ∙ t) q
+pub now_listed : (kinds starts list pins work : List ℕ) → Long kinds starts list pins work → (nets : ℕ) (w' : List ℕ) (first : Bool)
+    → ListsTested starts (length kinds) list pins nets w' first → first ≡ true → Listed starts list pins (length kinds)
+now_listed kinds starts list pins work g nets w' first e t =
+    listed starts (length kinds) list pins nets (omega (arith, g.starts_long)) (omega (arith, g.pins_long)) (sym e.answer ∙ t)

@@ -98,6 +98,7 @@ fn pins_right(n: NetlistTables, work: &mut [u32]) -> bool
 }
 
 // 5: both rules.
+#[tactic(auto, unfolding(crate::specs::Tables::pins_told))]
 fn pins_fit(n: NetlistTables, work: &mut [u32]) -> bool
     requires kinded { Kinded n.kinds.now }
     requires long { Long n.kinds.now n.starts.now n.list.now n.pins.now work.old }
@@ -107,6 +108,7 @@ fn pins_fit(n: NetlistTables, work: &mut [u32]) -> bool
 }
 
 // 3 to 6, of tables of the lengths that 2 asks for. Of the work words only the length is kept.
+#[tactic(auto, using(crate::proofs::Numbers::told_fits))]
 pub fn test_tables(n: NetlistTables, work: &mut [u32]) -> Result<(), Refusal>
     requires { Long n.kinds.now n.starts.now n.list.now n.pins.now work.old }
     ensures { result ≡ done_of (tables_number (netlist_in n.entry)) }
@@ -127,6 +129,7 @@ pub fn test_tables(n: NetlistTables, work: &mut [u32]) -> Result<(), Refusal>
 }
 
 // 1 and 2, then 3 to 6.
+#[tactic(auto, unfolding(crate::specs::Tables::long_by, crate::specs::Tables::check_tables_number))]
 fn test_netlist(c: NetlistCounts, n: NetlistTables, work: &mut [u32]) -> Result<(), Refusal>
     requires { work.old ≡ zeros (length work.old) }
     ensures { result ≡ done_of (check_tables_number c (netlist_in n.entry) (length work.old)) }
