@@ -44,12 +44,12 @@ pub flagged_begins : (m at : ℕ) (w ws : List ℕ) (t : Tally) → Flagging m a
 flagged_begins m at w ws t h = made t refl h refl (ends_refl t) (only_refl m at w) refl
 
 -- what flags leave that fit
-record Kept (m at : ℕ) (ds : List Driver) (w ws : List ℕ) (t : Tally) (w' ws' : List ℕ) (t' : Tally) : Type 0 where
-  state : Flagging m at w' ws' t'
-  drivers : drafted ws' t' ≡ ds
-  ends : SameEnds t t'
-  only : FlagsOnly m at w w'
-  long : length ws' ≡ length ws
+pub record Kept (m at : ℕ) (ds : List Driver) (w ws : List ℕ) (t : Tally) (w' ws' : List ℕ) (t' : Tally) : Type 0 where
+  pub state : Flagging m at w' ws' t'
+  pub drivers : drafted ws' t' ≡ ds
+  pub ends : SameEnds t t'
+  pub only : FlagsOnly m at w w'
+  pub long : length ws' ≡ length ws
 
 module _ (m at : ℕ) (ds : List Driver) (w ws : List ℕ) (t : Tally) (w₁ ws₁ : List ℕ) where
   flagged_longer : (es : List Driver) → length ds ≤ length es → Flagged m at ds w ws t w₁ ws₁ None → Flagged m at es w ws t w₁ ws₁ None
@@ -57,7 +57,7 @@ module _ (m at : ℕ) (ds : List Driver) (w ws : List ℕ) (t : Tally) (w₁ ws�
   flagged_longer es l (full a b c d) = full a (omega (arith, b, l)) c d
 
   module _ (u : Tally) where
-    kept : Flagged m at ds w ws t w₁ ws₁ (Some u) → Kept m at ds w ws t w₁ ws₁ u
+    pub kept : Flagged m at ds w ws t w₁ ws₁ (Some u) → Kept m at ds w ws t w₁ ws₁ u
     kept (made v e a b c d f) =
         let s : v ≡ u = cc in
         subst (Kept m at ds w ws t w₁ ws₁) s (record { state = a; drivers = b; ends = c; only = d; long = f })
