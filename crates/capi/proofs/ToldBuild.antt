@@ -6,7 +6,7 @@ use Prim.Native.Nat.{ℕ, zero, suc, ◌+◌, ◌*◌, ◌≤◌, ◌<◌}
 use native.Mathlib.Omega.{arith}
 use borrow.Author.Tests.{ne_eqb, le-leb, lt-leb, leb-true}
 use lib.ListN.{length, set, take, drop}
-use Rattle.std.specs.Prelude.{◌==◌}
+use Rattle.std.specs.Prelude.{Result, Ok, Err, ◌==◌}
 use Rattle.laws.specs.Tests.{◌≤?◌, or_else, refuse}
 use Rattle.laws.specs.Words.{zeros, filled}
 use Rattle.laws.proofs.Tests.{by_test, true≢false, not_refused}
@@ -14,17 +14,18 @@ use Rattle.laws.proofs.Words.{zeros-length, filled_none, filled_more}
 use Rattle.rules.specs.declared.NetlistCounts.{NetlistCounts}
 use Rattle.rules.specs.declared.Rooms.{Rooms}
 use Rattle.rules.specs.declared.Tally.{Tally}
-use Rattle.rules.specs.declared.Built.{Built}
-use Rattle.rules.specs.declared.Built.TheVariants.{Made, Refused}
+use Rattle.rules.specs.declared.Refusal.{Refusal}
 use Rattle.rules.specs.Netlist.{Netlist}
 use Rattle.rules.specs.Bounds.{netlist_within, rooms_within}
 use Rattle.rules.specs.Build.{graph_of, tally}
 use Rattle.rules.specs.Refusals.{netlist_number, room_fits}
 use Rattle.rules.specs.Tables.{held}
-use Rattle.rules.specs.Answers.{BuildLengths, BuildTables, build_number, build_tables, built_of, netlist_long, rooms_long}
+use Rattle.rules.specs.Answers.{BuildLengths, BuildTables, build_number, build_tables, answer_of, number_of, netlist_long, rooms_long}
 use Rattle.roles.specs.Reading.{tables}
+use Rattle.tells.proofs.Numbers.{number_of_lem}
 use Rattle.tells.proofs.Telling.{held_same}
 use Rattle.aig.specs.Building.{lengths_of, Answered}
+use Rattle.capi.proofs.Few.{build_few}
 use Rattle.capi.specs.Building.{tally_words, MadeTold, built_number, built_words, BuiltTold, starts_asked, graph_number, GraphBuilt}
 
 -- ---- the starts that are asked with
@@ -52,27 +53,27 @@ module _ (t : Tally) (n : List ℕ) where
   pub made_done : (n' : List ℕ) → 5 ≤ length n → n' ≡ filled (tally_words t) (length n) → MadeTold t n n' 0
   made_done n' l e = record { answer = sym (rw (le-leb 5 (length n) l)); counts = e }
 
-module _ (r : Built) (n n₁ : List ℕ) (z : n₁ ≡ zeros (length n)) where
+module _ (r : Result Tally Refusal) (n n₁ : List ℕ) (z : n₁ ≡ zeros (length n)) where
   long : length n₁ ≡ length n
   long = ap length z ∙ zeros-length (length n)
 
   pub built_zeroed : n₁ ≡ zeros (length n₁)
   built_zeroed = z ∙ ap zeros (sym long)
 
-  pub built_made : (t : Tally) (n₂ : List ℕ) (k : ℕ) → r ≡ Made t → MadeTold t n₁ n₂ k → BuiltTold r n n₂ k
+  pub built_made : (t : Tally) (n₂ : List ℕ) (k : ℕ) → r ≡ Ok t → MadeTold t n₁ n₂ k → BuiltTold r n n₂ k
   built_made t n₂ k e m = record {
     answer = m.answer ∙ ap (λ (x : ℕ). refuse 2 (5 ≤? x)) long ∙ ap (built_number (length n)) (sym e);
-    counts = m.counts ∙ ap (λ (x : ℕ). held k (tally_words t) x) long ∙ ap (λ (x : Built). held k (built_words x) (length n)) (sym e);
+    counts = m.counts ∙ ap (λ (x : ℕ). held k (tally_words t) x) long ∙ ap (λ (x : Result Tally Refusal). held k (built_words x) (length n)) (sym e);
   }
 
   none-held : (k : ℕ) → zeros (length n) ≡ held k [] (length n)
   none-held zero = sym (filled_none (length n))
   none-held (suc k) = refl
 
-  pub built_refused : (k : ℕ) → r ≡ Refused k → BuiltTold r n n₁ k
-  built_refused k e = record {
-    answer = ap (built_number (length n)) (sym e);
-    counts = z ∙ none-held k ∙ ap (λ (x : Built). held k (built_words x) (length n)) (sym e);
+  pub built_refused : (f : Refusal) (k : ℕ) → r ≡ Err f → k ≡ number_of f → BuiltTold r n n₁ k
+  built_refused f k e q = record {
+    answer = q ∙ ap (built_number (length n)) (sym e);
+    counts = z ∙ none-held k ∙ ap (λ (x : Result Tally Refusal). held k (built_words x) (length n)) (sym e);
   }
 
 -- ---- the number, with the starts that are asked with
@@ -96,16 +97,16 @@ and_fails_l : (x y : Bool) → x ≡ false → (x && y) ≡ false
 and_fails_l false y f = refl
 and_fails_l true y f = true≢false true refl f
 
-told-number : (room k : ℕ) (t : Tally) → (k ≡ 0 → 5 ≤ room) → built_number room (built_of k t) ≡ k
-told-number room zero t f = rw (le-leb 5 room (f refl)) refl
-told-number room (suc k) t f = refl
+told-number : (room k : ℕ) (t : Tally) → k ≤ 15 → (k ≡ 0 → 5 ≤ room) → built_number room (answer_of k t) ≡ k
+told-number room zero t l f = rw (le-leb 5 room (f refl)) refl
+told-number room (suc k) t l f = number_of_lem k (omega arith)
 
 same_tables : (k : ℕ) (n₁ n : Netlist) (l : BuildLengths) → (k ≡ 0 → n₁ ≡ n) → build_tables k n₁ l ≡ build_tables k n l
 same_tables zero n₁ n l f = ap (λ (x : Netlist). build_tables 0 x l) (f refl)
 same_tables (suc k) n₁ n l f = refl
 
-words_of : (k : ℕ) (t : Tally) → k ≡ 0 → built_words (built_of k t) ≡ tally_words t
-words_of k t z = ap (λ (x : ℕ). built_words (built_of x t)) z
+words_of : (k : ℕ) (t : Tally) → k ≡ 0 → built_words (answer_of k t) ≡ tally_words t
+words_of k t z = ap (λ (x : ℕ). built_words (answer_of x t)) z
 
 module _ (c : NetlistCounts) (rm : Rooms) (kinds starts list pins nets : List ℕ) (l : BuildLengths) (room : ℕ) where
   abbrev given : List ℕ → Netlist
@@ -152,7 +153,7 @@ module _ (c : NetlistCounts) (rm : Rooms) (kinds starts list pins nets : List �
   told_is = refl
 
 -- ---- the call
-module _ (c : NetlistCounts) (rm : Rooms) (kinds starts list pins nets : List ℕ) (t₀ : BuildTables) (work n s : List ℕ) (t' : BuildTables) (w' n' : List ℕ) (a : Built) (r : ℕ) where
+module _ (c : NetlistCounts) (rm : Rooms) (kinds starts list pins nets : List ℕ) (t₀ : BuildTables) (work n s : List ℕ) (t' : BuildTables) (w' n' : List ℕ) (a : Result Tally Refusal) (r : ℕ) where
   pub build-told : s ≡ starts_asked (length n) starts → Answered c rm (tables kinds s list pins nets) (lengths_of t₀ (length work)) w' t' a → BuiltTold a n n' r
       → GraphBuilt c rm kinds starts list pins nets (lengths_of t₀ (length work)) n t' n' w' r
   build-told es p q = record {
@@ -186,4 +187,4 @@ module _ (c : NetlistCounts) (rm : Rooms) (kinds starts list pins nets : List �
 
       is : r ≡ d
       is = q.answer ∙ ap (built_number (length n)) p.answer
-          ∙ told-number (length n) k (tally (graph_of n₁)) (λ z. leb-true 5 (length n) (roomy c rm kinds starts list pins nets l (length n) (sym number ∙ z))) ∙ number
+          ∙ told-number (length n) k (tally (graph_of n₁)) (build_few c rm n₁ l) (λ z. leb-true 5 (length n) (roomy c rm kinds starts list pins nets l (length n) (sym number ∙ z))) ∙ number

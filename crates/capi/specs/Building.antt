@@ -1,18 +1,17 @@
 -- What trazz_build answers and leaves: the graph of a netlist by the rules, whatever was lent, with its five tallies in a table of counts of five words
 -- or more. A shorter one is a refusal 2, in document 01's place: after 1, and before what follows.
-use Rattle.std.specs.Prelude.{◌≡◌, ◌&&◌, List, [], ◌∷◌, ℕ, length, if◌then◌else◌}
+use Rattle.std.specs.Prelude.{◌≡◌, Result, Ok, Err, ◌&&◌, List, [], ◌∷◌, ℕ, length, if◌then◌else◌}
 use Rattle.laws.specs.Tests.{◌≤?◌, or_else, refuse}
 use Rattle.laws.specs.Words.{zeros}
 use Rattle.rules.specs.declared.NetlistCounts.{NetlistCounts}
 use Rattle.rules.specs.declared.Rooms.{Rooms}
 use Rattle.rules.specs.declared.Tally.{Tally}
-use Rattle.rules.specs.declared.Built.{Built}
-use Rattle.rules.specs.declared.Built.TheVariants.{Made, Refused}
+use Rattle.rules.specs.declared.Refusal.{Refusal}
 use Rattle.rules.specs.Netlist.{Netlist}
 use Rattle.rules.specs.Bounds.{netlist_within, rooms_within}
 use Rattle.rules.specs.Build.{graph_of, tally}
 use Rattle.rules.specs.Tables.{held}
-use Rattle.rules.specs.Answers.{BuildLengths, BuildTables, build_number, build_tables}
+use Rattle.rules.specs.Answers.{BuildLengths, BuildTables, number_of, build_number, build_tables}
 use Rattle.roles.specs.Reading.{tables}
 
 abbrev pub netlist_of : ℕ → ℕ → ℕ → NetlistCounts
@@ -30,15 +29,15 @@ pub record MadeTold (t : Tally) (n n' : List ℕ) (k : ℕ) : Type 0 where
   pub answer : k ≡ refuse 2 (5 ≤? length n)
   pub counts : n' ≡ held k (tally_words t) (length n)
 
-abbrev pub built_number : ℕ → Built → ℕ
-built_number room (Made t) = refuse 2 (5 ≤? room)
-built_number room (Refused k) = k
+abbrev pub built_number : ℕ → Result Tally Refusal → ℕ
+built_number room (Ok t) = refuse 2 (5 ≤? room)
+built_number room (Err e) = number_of e
 
-abbrev pub built_words : Built → List ℕ
-built_words (Made t) = tally_words t
-built_words (Refused k) = []
+abbrev pub built_words : Result Tally Refusal → List ℕ
+built_words (Ok t) = tally_words t
+built_words (Err e) = []
 
-pub record BuiltTold (r : Built) (n n' : List ℕ) (k : ℕ) : Type 0 where
+pub record BuiltTold (r : Result Tally Refusal) (n n' : List ℕ) (k : ℕ) : Type 0 where
   pub answer : k ≡ built_number (length n) r
   pub counts : n' ≡ held k (built_words r) (length n)
 

@@ -5,7 +5,7 @@ ghost use Rattle.aig.specs.Building.{lent, lengths_of};
 ghost use Rattle.capi.specs.Building.{netlist_of, rooms_of, starts_asked, tally_words, MadeTold, BuiltTold, GraphBuilt};
 
 use aig::from_netlistdb;
-use rules::{Built, NetlistCounts, Rooms, Tally};
+use rules::{NetlistCounts, NetlistTables, Refusal, Rooms, Tally};
 use words::zero;
 
 // The starts of the cells' lists, and none where the counts have no room: that is a refusal 2 of the call below, which then leaves all
@@ -43,13 +43,13 @@ fn tell_made(t: Tally, counts: &mut [u32]) -> u32
     0
 }
 
-fn tell_built(r: Built, counts: &mut [u32]) -> u32
+fn tell_built(r: Result<Tally, Refusal>, counts: &mut [u32]) -> u32
     ensures { BuiltTold r counts.old counts.new result }
 {
     zero(counts);
     match r {
-        Built::Made(t) => tell_made(t, counts),
-        Built::Refused(k) => k,
+        Ok(t) => tell_made(t, counts),
+        Err(e) => e.number(),
     }
 }
 
@@ -93,16 +93,18 @@ pub extern "C" fn trazz_build(
         rams: ram_room,
         fanouts: fanout_room,
     };
-    let room = counts.len();
-    let asked = starts_asked(starts, room);
-    let r = from_netlistdb(
-        c,
-        rooms,
+    let asked = starts_asked(starts, counts.len());
+    let n = NetlistTables {
         kinds,
-        asked,
+        starts: asked,
         list,
         pins,
         nets,
+    };
+    let r = from_netlistdb(
+        c,
+        rooms,
+        n,
         drivers,
         outputs,
         dffs,

@@ -3,9 +3,9 @@ ghost use Rattle.std.specs.Prelude.{◌≡◌};
 ghost use Rattle.capi.specs.Answer.{counts_of, EndFound, StagedFound, InputRead, StagedRead};
 
 use inputs::{endpoint_input, staged_input};
-use rules::GraphCounts;
+use rules::{EndTables, GraphCounts};
 use subsets::{get_endpoint_group, staged_endpoint_group};
-use tells::{found_told, read_told, tell};
+use tells::{endpoint_told, tell, word_told};
 
 // The endpoint of a number: its case and its place.
 #[unsafe(no_mangle)]
@@ -26,7 +26,7 @@ pub extern "C" fn trazz_endpoint(
         rams: ram_count,
     };
     let r = get_endpoint_group(c, endpoint);
-    tell(found_told(r), counts)
+    tell(endpoint_told(r), counts)
 }
 
 // What stands at a place of a stage. A place is a word here, as all numbers that C hands in.
@@ -50,7 +50,7 @@ pub extern "C" fn trazz_staged_endpoint(
         rams: ram_count,
     };
     let r = staged_endpoint_group(c, handed, taken, place as usize);
-    tell(found_told(r), counts)
+    tell(endpoint_told(r), counts)
 }
 
 // One input of an endpoint: its pin.
@@ -69,14 +69,19 @@ pub extern "C" fn trazz_input(
 ) -> u32
     ensures { InputRead (counts_of pins output_count dff_count ram_count) outputs.now dffs.now rams.now endpoint input counts.old counts.new result }
 {
-    let c = GraphCounts {
-        pins,
-        outputs: output_count,
-        dffs: dff_count,
-        rams: ram_count,
+    let ends = EndTables {
+        counts: GraphCounts {
+            pins,
+            outputs: output_count,
+            dffs: dff_count,
+            rams: ram_count,
+        },
+        outputs,
+        dffs,
+        rams,
     };
-    let r = endpoint_input(c, outputs, dffs, rams, endpoint, input);
-    tell(read_told(r), counts)
+    let r = endpoint_input(ends, endpoint, input);
+    tell(word_told(r), counts)
 }
 
 // One input of what stands at a place of a stage.
@@ -97,14 +102,17 @@ pub extern "C" fn trazz_staged_input(
 ) -> u32
     ensures { StagedRead (counts_of pins output_count dff_count ram_count) outputs.now dffs.now rams.now handed.now taken.now place input counts.old counts.new result }
 {
-    let c = GraphCounts {
-        pins,
-        outputs: output_count,
-        dffs: dff_count,
-        rams: ram_count,
+    let ends = EndTables {
+        counts: GraphCounts {
+            pins,
+            outputs: output_count,
+            dffs: dff_count,
+            rams: ram_count,
+        },
+        outputs,
+        dffs,
+        rams,
     };
-    let at = place as usize;
-    let i = input as usize;
-    let r = staged_input(c, outputs, dffs, rams, handed, taken, at, i);
-    tell(read_told(r), counts)
+    let r = staged_input(ends, handed, taken, place as usize, input as usize);
+    tell(word_told(r), counts)
 }

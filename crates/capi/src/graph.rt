@@ -5,8 +5,8 @@ ghost use Rattle.capi.specs.Answer.{counts_of, Checked, Evaluated, FannedOut, Tr
 use evaluate::evaluate;
 use fanouts::fanouts;
 use graphs::check_graph;
-use rules::GraphCounts;
-use tells::{done_number, listed_told, tell_one};
+use rules::{EndTables, GraphCounts, GraphTables};
+use tells::{done_number, tell_one, word_told};
 use traverse::topo_traverse_generic;
 
 // The graph check, refusal 12 whole.
@@ -24,13 +24,19 @@ pub extern "C" fn trazz_check_graph(
 ) -> u32
     ensures { Checked (counts_of pins output_count dff_count ram_count) drivers.now outputs.now dffs.now rams.now work.old work.new result }
 {
-    let c = GraphCounts {
+    let counts = GraphCounts {
         pins,
         outputs: output_count,
         dffs: dff_count,
         rams: ram_count,
     };
-    done_number(check_graph(c, drivers, outputs, dffs, rams, work))
+    let ends = EndTables {
+        counts,
+        outputs,
+        dffs,
+        rams,
+    };
+    done_number(check_graph(GraphTables { ends, drivers }, work))
 }
 
 // The visit order. `given` says whether there are roots: no list and an empty one are not the same.
@@ -48,7 +54,7 @@ pub extern "C" fn trazz_traverse(
     ensures { Traversed drivers.now pins given roots.now handed.now order.old counts.old work.old order.new counts.new work.new result }
 {
     let r = topo_traverse_generic(drivers, pins, given, roots, handed, order, work);
-    tell_one(listed_told(r), order, counts)
+    tell_one(word_told(r), order, counts)
 }
 
 // One bit a pin.

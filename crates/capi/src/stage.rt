@@ -4,10 +4,10 @@ ghost use Rattle.subsets.specs.Answer.{stage_of};
 ghost use Rattle.capi.specs.Answer.{counts_of, FullStaged, Subsetted, Split, AllStages};
 
 use parts::from_split;
-use rules::GraphCounts;
+use rules::{EndTables, GraphCounts, GraphTables};
 use staging::build_staged_aigs;
 use subsets::{from_full_aig, to_endpoint_subset};
-use tells::{parted_told, staged_told, tell_one, tell_three, tell_two};
+use tells::{stage_told, stages_told, tell_one, tell_three, tell_two};
 
 // The whole graph as one stage.
 #[unsafe(no_mangle)]
@@ -28,7 +28,7 @@ pub extern "C" fn trazz_full(
         rams: ram_count,
     };
     let r = from_full_aig(c, taken);
-    tell_one(parted_told(r), taken, counts)
+    tell_one(stage_told(r), taken, counts)
 }
 
 // A part of a stage, by places.
@@ -44,7 +44,7 @@ pub extern "C" fn trazz_subset(
     ensures { Subsetted (stage_of handed.now taken.now) subset.now handed_out.old taken_out.old counts.old handed_out.new taken_out.new counts.new result }
 {
     let r = to_endpoint_subset(handed, taken, subset, handed_out, taken_out);
-    tell_two(parted_told(r), handed_out, taken_out, counts)
+    tell_two(stage_told(r), handed_out, taken_out, counts)
 }
 
 // One split, asked alone.
@@ -68,16 +68,20 @@ pub extern "C" fn trazz_split(
 ) -> u32
     ensures { Split (counts_of pins output_count dff_count ram_count) drivers.now outputs.now dffs.now rams.now chosen.now before.now level handed.old taken.old counts.old work.old handed.new taken.new counts.new work.new result }
 {
-    let c = GraphCounts {
-        pins,
-        outputs: output_count,
-        dffs: dff_count,
-        rams: ram_count,
+    let ends = EndTables {
+        counts: GraphCounts {
+            pins,
+            outputs: output_count,
+            dffs: dff_count,
+            rams: ram_count,
+        },
+        outputs,
+        dffs,
+        rams,
     };
-    let r = from_split(
-        c, drivers, outputs, dffs, rams, chosen, before, level, handed, taken, work,
-    );
-    tell_two(parted_told(r), handed, taken, counts)
+    let g = GraphTables { ends, drivers };
+    let r = from_split(g, chosen, before, level, handed, taken, work);
+    tell_two(stage_told(r), handed, taken, counts)
 }
 
 // All stages of a list of levels.
@@ -101,14 +105,18 @@ pub extern "C" fn trazz_stages(
 ) -> u32
     ensures { AllStages (counts_of pins output_count dff_count ram_count) drivers.now outputs.now dffs.now rams.now splits.now room rows.old handed.old taken.old counts.old work.old rows.new handed.new taken.new counts.new work.new result }
 {
-    let c = GraphCounts {
-        pins,
-        outputs: output_count,
-        dffs: dff_count,
-        rams: ram_count,
+    let ends = EndTables {
+        counts: GraphCounts {
+            pins,
+            outputs: output_count,
+            dffs: dff_count,
+            rams: ram_count,
+        },
+        outputs,
+        dffs,
+        rams,
     };
-    let r = build_staged_aigs(
-        c, drivers, outputs, dffs, rams, splits, room, rows, handed, taken, work,
-    );
-    tell_three(staged_told(r), rows, handed, taken, counts)
+    let g = GraphTables { ends, drivers };
+    let r = build_staged_aigs(g, splits, room, rows, handed, taken, work);
+    tell_three(stages_told(r), rows, handed, taken, counts)
 }

@@ -4,8 +4,8 @@ use Rattle.capi.proofs.build.tell_built.Goals as goal
 pub tell_made-requires : goal.tell_made-requires
 tell_made-requires c = search built_zeroed
 
-pub returns-in-Made : goal.returns-in-Made
-returns-in-Made c = search built_made
+pub returns-in-Ok : goal.returns-in-Ok
+returns-in-Ok c = search built_made
 
-pub returns-in-Refused : goal.returns-in-Refused
-returns-in-Refused c = search built_refused
+pub returns-in-Err : goal.returns-in-Err
+returns-in-Err c = search built_refused
