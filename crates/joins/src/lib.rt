@@ -2,20 +2,20 @@
 // A pin leaves the set as soon as nothing more reads it. Nothing searches a list.
 #![tactic(auto)]
 
-ghost use Rattle.std.specs.Prelude.{◌≡◌, [], ◌∷◌, ℕ, ◌+◌, ◌*◌, ◌<◌, ◌≤◌, length, get_or};
+ghost use Rattle.std.specs.Prelude.{◌≡◌, [], ◌∷◌, ◌+◌, ◌*◌, ◌<◌, ◌≤◌};
 ghost use Rattle.laws.specs.Lists.{flat};
 ghost use Rattle.laws.specs.Words.{part};
 ghost use Rattle.rules.specs.Answers.{endpoints};
 ghost use Rattle.walk.specs.State.{goes, list_of, Going};
 ghost use Rattle.members.specs.Set.{SetIn};
-ghost use Rattle.reads.specs.Reads.{Lent, ins_of};
-ghost use Rattle.levels.specs.State.{stops_of, Known, ReadsFit, only};
+ghost use Rattle.reads.specs.Reads.{LentIn, ins_in};
+ghost use Rattle.levels.specs.State.{stops_of, Known, ReadsFitIn, only};
 ghost use Rattle.joins.specs.State.{ReadAll, JoinedAll, Takens};
 
 use levels::operands_at;
 use members::{insert, remove};
 use reads::{read_pin, reads_count};
-use rules::GraphCounts;
+use rules::EndTables;
 use words::word;
 
 // One reader of o is done; o leaves the set if nothing more reads it. How many pins the set has then.
@@ -47,26 +47,17 @@ fn read_input(work: &mut [u32], m: usize, n: usize, p: u32) -> usize
 }
 
 // An endpoint that is taken has read its inputs, in order.
-fn read_inputs(
-    c: GraphCounts,
-    outputs: &[u32],
-    dffs: &[u32],
-    rams: &[u32],
-    work: &mut [u32],
-    m: usize,
-    size: usize,
-    e: usize,
-) -> usize
-    requires lent { Lent c outputs.now dffs.now rams.now }
-    requires reads_fit { ReadsFit c outputs.now dffs.now rams.now m }
-    requires e_bound { e < endpoints c }
+fn read_inputs(ends: EndTables, work: &mut [u32], m: usize, size: usize, e: usize) -> usize
+    requires lent { LentIn ends }
+    requires reads_fit { ReadsFitIn ends m }
+    requires e_bound { e < endpoints ends.counts }
     requires set_in { SetIn work.old (6 * m) m size }
-    ensures { ReadAll m work.old size (ins_of c outputs.now dffs.now rams.now e) work.new result }
+    ensures { ReadAll m work.old size (ins_in ends.entry e) work.new result }
 {
-    let k = reads_count(c, e);
+    let k = reads_count(ends.counts, e);
     let mut n = size;
     for i in 0..k {
-        let p = read_pin(c, outputs, dffs, rams, e, i);
+        let p = read_pin(ends.counts, ends.outputs, ends.dffs, ends.rams, e, i);
         n = read_input(work, m, n, p);
     }
     n
@@ -74,10 +65,7 @@ fn read_inputs(
 
 // All endpoints taken, which lie in a table from a place on, have read their inputs.
 pub fn read_taken(
-    c: GraphCounts,
-    outputs: &[u32],
-    dffs: &[u32],
-    rams: &[u32],
+    ends: EndTables,
     taken: &[u32],
     first: usize,
     count: usize,
@@ -85,16 +73,16 @@ pub fn read_taken(
     m: usize,
     size: usize,
 ) -> usize
-    requires lent { Lent c outputs.now dffs.now rams.now }
-    requires reads_fit { ReadsFit c outputs.now dffs.now rams.now m }
-    requires takens { Takens taken.now first count (endpoints c) }
+    requires lent { LentIn ends }
+    requires reads_fit { ReadsFitIn ends m }
+    requires takens { Takens taken.now first count (endpoints ends.counts) }
     requires set_in { SetIn work.old (6 * m) m size }
-    ensures { ReadAll m work.old size (flat (ins_of c outputs.now dffs.now rams.now) (part taken.now first count)) work.new result }
+    ensures { ReadAll m work.old size (flat (ins_in ends.entry) (part taken.now first count)) work.new result }
 {
     let mut n = size;
     for i in 0..count {
         let e = word(taken, first + i);
-        n = read_inputs(c, outputs, dffs, rams, work, m, n, e as usize);
+        n = read_inputs(ends, work, m, n, e as usize);
     }
     n
 }

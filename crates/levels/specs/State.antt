@@ -5,6 +5,7 @@ use Rattle.laws.specs.Lists.{count, member, keep, flat, over, upto}
 use Rattle.laws.specs.Search.{above, level}
 use Rattle.laws.proofs.Visits.{visit_at, Ranked}
 use Rattle.laws.proofs.Words.{bump}
+use Rattle.rules.specs.declared.EndTables.{EndTables}
 use Rattle.rules.specs.declared.GraphCounts.{GraphCounts}
 use Rattle.rules.specs.Refusals.{drivers_fit}
 use Rattle.rules.specs.Answers.{endpoints}
@@ -104,3 +105,7 @@ pub record Levelled (ws : List ℕ) (m : ℕ) (before w : List ℕ) (k : ℕ) (w
   pub levels : (p : ℕ) → p < m → get_or w' (4 * m + p) 0 ≡ (if member p (list_of w m k) then level (goes ws m before) p else 0)
   pub readers : (p : ℕ) → p < m → get_or w' (5 * m + p) 0 ≡ get_or w (5 * m + p) 0 + count p (flat (goes ws m before) (list_of w m k))
   pub kept : Within (4 * m) (6 * m) w w'
+
+-- ---- of lent tables
+abbrev pub ReadsFitIn : EndTables → ℕ → Type 0
+ReadsFitIn ends m = ReadsFit ends.counts ends.outputs.now ends.dffs.now ends.rams.now m

@@ -2,17 +2,16 @@
 // levels lie from 4 * m, the readers from 5 * m, and from 8 * m on lie the endpoints that are left.
 #![tactic(auto)]
 
-ghost use Rattle.std.specs.Prelude.{◌≡◌, [], ℕ, suc, ◌+◌, ◌*◌, ◌<◌, ◌≤◌, max, length, get_or, set};
+ghost use Rattle.std.specs.Prelude.{◌≡◌, [], suc, ◌+◌, ◌*◌, ◌<◌, ◌≤◌, max, length, get_or, set};
 ghost use Rattle.laws.specs.Lists.{flat};
 ghost use Rattle.laws.specs.Words.{part};
-ghost use Rattle.laws.proofs.Visits.{Ranked};
 ghost use Rattle.rules.specs.Answers.{endpoints};
-ghost use Rattle.walk.specs.State.{goes, list_of, Going};
-ghost use Rattle.reads.specs.Reads.{Lent, ins_of};
-ghost use Rattle.levels.specs.State.{stops_of, Known, Spare, ReadsFit, Lefts, only, Gathered, Leads, Rises, raised, Raising, RaisedPin, Ranks, Levelled};
+ghost use Rattle.walk.specs.State.{Going};
+ghost use Rattle.reads.specs.Reads.{LentIn, ins_in};
+ghost use Rattle.levels.specs.State.{stops_of, Known, Spare, ReadsFitIn, Lefts, only, Gathered, Leads, Rises, raised, Raising, RaisedPin, Ranks, Levelled};
 
 use reads::{read_pin, reads_count};
-use rules::GraphCounts;
+use rules::GraphTables;
 use walk::visit;
 use words::word;
 
@@ -42,55 +41,43 @@ fn visit_input(drivers: &[u32], work: &mut [u32], m: usize, k: usize, p: u32) ->
 }
 
 // The visits of an endpoint's inputs.
-fn visit_inputs(
-    c: GraphCounts,
-    drivers: &[u32],
-    outputs: &[u32],
-    dffs: &[u32],
-    rams: &[u32],
-    work: &mut [u32],
-    m: usize,
-    count: usize,
-    e: usize,
-) -> usize
-    requires lent { Lent c outputs.now dffs.now rams.now }
-    requires reads_fit { ReadsFit c outputs.now dffs.now rams.now m }
-    requires e_bound { e < endpoints c }
-    requires going { Going drivers.now m work.old 0 count }
+fn visit_inputs(g: GraphTables, work: &mut [u32], m: usize, count: usize, e: usize) -> usize
+    requires lent { LentIn g.ends }
+    requires reads_fit { ReadsFitIn g.ends m }
+    requires e_bound { e < endpoints g.ends.counts }
+    requires going { Going g.drivers.now m work.old 0 count }
     requires spare { Spare work.old m 91 }
-    ensures { Gathered drivers.now m (stops_of work.old m) work.old count (ins_of c outputs.now dffs.now rams.now e) work.new result }
+    ensures { Gathered g.entry.drivers.now m (stops_of work.old m) work.old count (ins_in g.entry.ends e) work.new result }
 {
-    let n = reads_count(c, e);
+    let n = reads_count(g.ends.counts, e);
     let mut k = count;
     for i in 0..n {
-        let p = read_pin(c, outputs, dffs, rams, e, i);
-        k = visit_input(drivers, work, m, k, p);
+        let p = read_pin(
+            g.ends.counts,
+            g.ends.outputs,
+            g.ends.dffs,
+            g.ends.rams,
+            e,
+            i,
+        );
+        k = visit_input(g.drivers, work, m, k, p);
     }
     k
 }
 
 // The visits of the inputs of the n endpoints left, in their order; how many pins are listed then.
-pub fn visit_left(
-    c: GraphCounts,
-    drivers: &[u32],
-    outputs: &[u32],
-    dffs: &[u32],
-    rams: &[u32],
-    work: &mut [u32],
-    m: usize,
-    n: usize,
-) -> usize
-    requires lent { Lent c outputs.now dffs.now rams.now }
-    requires reads_fit { ReadsFit c outputs.now dffs.now rams.now m }
-    requires lefts { Lefts work.old m n (endpoints c) }
-    requires going { Going drivers.now m work.old 0 0 }
+pub fn visit_left(g: GraphTables, work: &mut [u32], m: usize, n: usize) -> usize
+    requires lent { LentIn g.ends }
+    requires reads_fit { ReadsFitIn g.ends m }
+    requires lefts { Lefts work.old m n (endpoints g.ends.counts) }
+    requires going { Going g.drivers.now m work.old 0 0 }
     requires spare { Spare work.old m (91 * n) }
-    ensures { Gathered drivers.now m (stops_of work.old m) work.old 0 (flat (ins_of c outputs.now dffs.now rams.now) (part work.old (8 * m) n)) work.new result }
+    ensures { Gathered g.entry.drivers.now m (stops_of work.old m) work.old 0 (flat (ins_in g.entry.ends) (part work.old (8 * m) n)) work.new result }
 {
     let mut k = 0;
     for i in 0..n {
         let e = word(work, 8 * m + i);
-        k = visit_inputs(c, drivers, outputs, dffs, rams, work, m, k, e as usize);
+        k = visit_inputs(g, work, m, k, e as usize);
     }
     k
 }

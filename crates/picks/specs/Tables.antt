@@ -2,6 +2,7 @@
 use Rattle.std.specs.Prelude.{◌≡◌, Option, Some, None, Bool, List, ◌++◌, ℕ, ◌+◌, ◌<◌, ◌≤◌, length, get_or, drop, ◌==◌}
 use Rattle.laws.specs.Lists.{keep, every}
 use Rattle.laws.specs.Words.{part, ZeroFrom}
+use Rattle.rules.specs.declared.EndTables.{EndTables}
 use Rattle.rules.specs.declared.GraphCounts.{GraphCounts}
 use Rattle.rules.specs.Stages.{inputs_of}
 use Rattle.reads.specs.Reads.{reads_in, ins_of}
@@ -49,3 +50,7 @@ pub record Full (t : List ℕ) (n : ℕ) (ws t' : List ℕ) : Type 0 where
 abbrev pub Pushing : List ℕ → ℕ → List ℕ → List ℕ → Option ℕ → Type 0
 Pushing t n ws t' (Some n') = Pushed t n ws t' n'
 Pushing t n ws t' None = Full t n ws t'
+
+-- ---- of lent tables
+abbrev pub take_test_in : EndTables → ℕ → List ℕ → ℕ → ℕ → Bool
+take_test_in ends = take_test ends.counts ends.outputs.now ends.dffs.now ends.rams.now

@@ -2,16 +2,16 @@
 // they do not fit.
 #![tactic(auto)]
 
-ghost use Rattle.std.specs.Prelude.{◌≡◌, [], ◌∷◌, ℕ, ◌+◌, ◌*◌, ◌<◌, ◌≤◌, length};
+ghost use Rattle.std.specs.Prelude.{◌≡◌, [], ◌∷◌, ◌+◌, ◌*◌, ◌<◌, ◌≤◌, length};
 ghost use Rattle.laws.specs.Words.{part};
 ghost use Rattle.rules.specs.Answers.{endpoints};
 ghost use Rattle.members.specs.Set.{SetIn};
-ghost use Rattle.reads.specs.Reads.{Lent, ins_of};
-ghost use Rattle.levels.specs.State.{ReadsFit, Lefts, only};
-ghost use Rattle.picks.specs.Tables.{picks, low_ins, take_test, free_test, Open, Pushing};
+ghost use Rattle.reads.specs.Reads.{LentIn, ins_in};
+ghost use Rattle.levels.specs.State.{ReadsFitIn, Lefts, only};
+ghost use Rattle.picks.specs.Tables.{picks, low_ins, take_test_in, free_test, Open, Pushing};
 
 use reads::{read_pin, reads_count};
-use rules::GraphCounts;
+use rules::EndTables;
 use words::word;
 
 // Is the level of an input at most d? Pin 0 is no input.
@@ -28,25 +28,16 @@ fn low_input(work: &[u32], m: usize, d: u32, p: u32) -> bool
 }
 
 // Are all inputs of an endpoint low?
-fn inputs_low(
-    c: GraphCounts,
-    outputs: &[u32],
-    dffs: &[u32],
-    rams: &[u32],
-    work: &[u32],
-    m: usize,
-    d: u32,
-    e: usize,
-) -> bool
-    requires lent { Lent c outputs.now dffs.now rams.now }
-    requires reads_fit { ReadsFit c outputs.now dffs.now rams.now m }
-    requires e_bound { e < endpoints c }
+fn inputs_low(ends: EndTables, work: &[u32], m: usize, d: u32, e: usize) -> bool
+    requires lent { LentIn ends }
+    requires reads_fit { ReadsFitIn ends m }
+    requires e_bound { e < endpoints ends.counts }
     requires m_in_bounds { 8 * m ≤ length work.now }
-    ensures { result ≡ low_ins m work.now d (ins_of c outputs.now dffs.now rams.now e) }
+    ensures { result ≡ low_ins m work.now d (ins_in ends.entry e) }
 {
-    let n = reads_count(c, e);
+    let n = reads_count(ends.counts, e);
     for i in 0..n {
-        let p = read_pin(c, outputs, dffs, rams, e, i);
+        let p = read_pin(ends.counts, ends.outputs, ends.dffs, ends.rams, e, i);
         let low = low_input(work, m, d, p);
         if !low {
             return false;
@@ -69,10 +60,7 @@ fn push(table: &mut [u32], n: usize, v: u32) -> Option<usize>
 
 // An endpoint left is taken where its inputs are low.
 fn take_one(
-    c: GraphCounts,
-    outputs: &[u32],
-    dffs: &[u32],
-    rams: &[u32],
+    ends: EndTables,
     work: &[u32],
     m: usize,
     d: u32,
@@ -80,14 +68,14 @@ fn take_one(
     n: usize,
     e: u32,
 ) -> Option<usize>
-    requires lent { Lent c outputs.now dffs.now rams.now }
-    requires reads_fit { ReadsFit c outputs.now dffs.now rams.now m }
-    requires e_bound { e < endpoints c }
+    requires lent { LentIn ends }
+    requires reads_fit { ReadsFitIn ends m }
+    requires e_bound { e < endpoints ends.counts }
     requires m_in_bounds { 8 * m ≤ length work.now }
     requires fact { Open taken.old n }
-    ensures { Pushing taken.old n (picks (take_test c outputs.now dffs.now rams.now m work.now d) (e ∷ [])) taken.new result }
+    ensures { Pushing taken.old n (picks (take_test_in ends.entry m work.now d) (e ∷ [])) taken.new result }
 {
-    let low = inputs_low(c, outputs, dffs, rams, work, m, d, e as usize);
+    let low = inputs_low(ends, work, m, d, e as usize);
     if !low {
         return Some(n);
     }
@@ -96,10 +84,7 @@ fn take_one(
 
 // The endpoints left that are taken, in their order.
 pub fn take_all(
-    c: GraphCounts,
-    outputs: &[u32],
-    dffs: &[u32],
-    rams: &[u32],
+    ends: EndTables,
     work: &[u32],
     m: usize,
     d: u32,
@@ -107,16 +92,16 @@ pub fn take_all(
     taken: &mut [u32],
     first: usize,
 ) -> Option<usize>
-    requires lent { Lent c outputs.now dffs.now rams.now }
-    requires reads_fit { ReadsFit c outputs.now dffs.now rams.now m }
-    requires lefts { Lefts work.now m left (endpoints c) }
+    requires lent { LentIn ends }
+    requires reads_fit { ReadsFitIn ends m }
+    requires lefts { Lefts work.now m left (endpoints ends.counts) }
     requires fact { Open taken.old first }
-    ensures { Pushing taken.old first (picks (take_test c outputs.now dffs.now rams.now m work.now d) (part work.now (8 * m) left)) taken.new result }
+    ensures { Pushing taken.old first (picks (take_test_in ends.entry m work.now d) (part work.now (8 * m) left)) taken.new result }
 {
     let mut n = first;
     for i in 0..left {
         let e = word(work, 8 * m + i);
-        n = take_one(c, outputs, dffs, rams, work, m, d, taken, n, e)?;
+        n = take_one(ends, work, m, d, taken, n, e)?;
     }
     Some(n)
 }

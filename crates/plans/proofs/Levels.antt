@@ -6,14 +6,13 @@ use Prim.Native.Nat.{ℕ, suc, ◌+◌, ◌-◌, ◌<◌, ◌≤◌}
 use native.Mathlib.Omega.{arith}
 use lib.ListN.{length, get_or, drop}
 use lib.Seq.{drop-cons}
-use borrow.Author.Tests.{le-leb, lt-leb, leb-true, leb-false, le-ltb, lt-ltb}
+use borrow.Author.Tests.{leb-true, leb-false, le-ltb, lt-ltb}
 use Rattle.laws.specs.Tests.{◌<?◌, ◌≤?◌}
 use Rattle.laws.specs.Lists.{every}
 use Rattle.laws.proofs.Tests.{by_test}
 use Rattle.rules.specs.Refusals.{below, rising}
-use Rattle.plans.specs.Answer.{levels_fit}
 
-below_is : (l : List ℕ) → below 16777216 l ≡ every (λ b. b ≤? 16777215) l
+pub below_is : (l : List ℕ) → below 16777216 l ≡ every (λ b. b ≤? 16777215) l
 below_is [] = refl
 below_is (x ∷ l) = λ i. same x i && below_is l i
   where
@@ -21,25 +20,6 @@ below_is (x ∷ l) = λ i. same x i && below_is l i
     same y = by_test (y ≤? 16777215)
         (λ t. lt-ltb y 16777216 (omega (arith, leb-true y 16777215 t)) ∙ sym t)
         (λ f. le-ltb y 16777216 (omega (arith, leb-false y 16777215 f)) ∙ sym f)
-
-module _ (splits : List ℕ) (r h t : ℕ) where
-  pub many_levels : 64 < length splits → false ≡ levels_fit splits r h t
-  many_levels l = sym (rw (lt-leb (length splits) 64 l))
-
-  module _ (ls : length splits ≤ 64) (b : Bool) (eb : b ≡ below 16777216 splits) where
-    pub high_level : b ≡ false → false ≡ levels_fit splits r h t
-    high_level f = sym (rw (le-leb (length splits) 64 ls, sym (below_is splits) ∙ sym eb ∙ f))
-
-    module _ (tb : b ≡ true) where
-      pub many_rows : 65 < r → false ≡ levels_fit splits r h t
-      many_rows l = sym (rw (le-leb (length splits) 64 ls, sym (below_is splits) ∙ sym eb ∙ tb, lt-leb r 65 l))
-
-      module _ (lr : r ≤ 65) where
-        pub many_handed : 16777215 < h → false ≡ levels_fit splits r h t
-        many_handed l = sym (rw (le-leb (length splits) 64 ls, sym (below_is splits) ∙ sym eb ∙ tb, le-leb r 65 lr, lt-leb h 16777215 l))
-
-        pub levels_few : h ≤ 16777215 → (t ≤? 16777215) ≡ levels_fit splits r h t
-        levels_few l = sym (rw (le-leb (length splits) 64 ls, sym (below_is splits) ∙ sym eb ∙ tb, le-leb r 65 lr, le-leb h 16777215 l))
 
 -- ---- rising: those before i do
 pub record RisingTo (splits : List ℕ) (i : ℕ) : Type 0 where

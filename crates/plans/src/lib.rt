@@ -13,22 +13,15 @@ use walk::given::all_below;
 use words::{word, zero};
 
 // 1: are the levels and the rooms within their bounds?
+#[tactic(auto, using(crate::proofs::Levels::below_is))]
 pub fn levels_fit(splits: &[u32], rows: u32, handed: usize, taken: usize) -> bool
     ensures { result ≡ levels_fit splits.now rows handed taken }
 {
-    if 64 < splits.len() {
-        return false;
-    }
-    if !all_below(splits, 16777216) {
-        return false;
-    }
-    if 65 < rows {
-        return false;
-    }
-    if 16777215 < handed {
-        return false;
-    }
-    taken <= 16777215
+    splits.len() <= 64
+        && all_below(splits, 16777216)
+        && rows <= 65
+        && handed <= 16777215
+        && taken <= 16777215
 }
 
 // 13: does each level stand above the one before it?

@@ -1,6 +1,7 @@
 -- What an endpoint reads, by number, in the words of a graph.
 use Rattle.std.specs.Prelude.{◌≡◌, List, [], ℕ, ◌+◌, ◌-◌, ◌*◌, ◌/◌, ◌%◌, ◌≤◌, length, get_or, take, if◌then◌else◌, ◌==◌}
 use Rattle.laws.specs.Tests.{◌<?◌}
+use Rattle.rules.specs.declared.EndTables.{EndTables}
 use Rattle.rules.specs.declared.GraphCounts.{GraphCounts}
 use Rattle.rules.specs.Stages.{reads, inputs_of}
 use Rattle.rules.specs.Tables.{GraphWords, graph_in}
@@ -41,3 +42,10 @@ unfoldable pub ram_read : List ℕ → ℕ → ℕ → ℕ
 ram_read ws k i =
     if i == 0 then get_or ws (123 * k) 0
     else (if i <? 27 then turn_word ws (123 * k + 1) (123 * k + 46) (i - 1) else turn_word ws (123 * k + 59) (123 * k + 91) (i - 27))
+
+-- ---- the same of lent tables
+abbrev pub LentIn : EndTables → Type 0
+LentIn ends = Lent ends.counts ends.outputs.now ends.dffs.now ends.rams.now
+
+abbrev pub ins_in : EndTables → ℕ → List ℕ
+ins_in ends = ins_of ends.counts ends.outputs.now ends.dffs.now ends.rams.now

@@ -2,4 +2,4 @@ use Rattle.joins.proofs.Reading.{ReadingTaken}
 use Rattle.joins.proofs.read_taken.Given as goal
 
 abbrev pub invariant-loop-i : goal.invariant-loop-i
-invariant-loop-i l = ReadingTaken l.c l.outputs l.dffs l.rams l.taken l.first l.count l.m l.initial.work l.size l.work l.n l.i
+invariant-loop-i l = ReadingTaken l.ends.counts l.ends.outputs.now l.ends.dffs.now l.ends.rams.now l.taken l.first l.count l.m l.initial.work l.size l.work l.n l.i

@@ -10,4 +10,4 @@ returns-then-not-low c = search take_no
 
 pub returns : goal.returns
 returns c = let a = c.args in subst (λ (ws : List ℕ). Pushing a.taken.now a.n ws c.push.new.table c.push.result)
-    (sym (take_yes a.c a.outputs.now a.dffs.now a.rams.now a.m a.work.now a.d a.e _ c.inputs_low-low.ensures c.if-not-low.false)) c.push.ensures
+    (sym (take_yes a.ends.counts a.ends.outputs.now a.ends.dffs.now a.ends.rams.now a.m a.work.now a.d a.e _ c.inputs_low-low.ensures c.if-not-low.false)) c.push.ensures
