@@ -10,11 +10,6 @@ pub record Told (n : Netlist) (w : List ℕ) : Type 0 where
   pub long : 2 * size n ≤ length w
   pub marks : (p : ℕ) → p < size n → get_or w (size n + p) 0 ≡ mark_word (mark n p)
 
--- n entries from a place on, each one of the pins
-pub record Span (list : List ℕ) (at n : ℕ) : Type 0 where
-  pub fits : at + n ≤ length list
-  pub below : (j : ℕ) → j < n → get_or list (at + j) 0 < length list
-
 -- a pin of a cell of this kind has a logic bit where it must
 unfoldable pub free_if : Netlist → Kind → ℕ → Bool
 free_if n k p = not (must_be_logic k (name_of n p)) || is_none (mark n p)
