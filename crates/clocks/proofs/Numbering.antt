@@ -111,10 +111,7 @@ module _ (g : ℕ → ℕ) (l : List ℕ) (i : ℕ) (s : Trying g l i) where
 
 -- ---- the list of a cell
 module _ (kinds starts list pins nets : List ℕ) (c : ℕ) (f : Fits (tables kinds starts list pins nets)) (lc : c < length kinds) where
-  pub start_in : c < length starts
-  start_in = omega (arith, f.starts_long)
-
-  pub end_in : c + 1 < length starts
+  end_in : c + 1 < length starts
   end_in = omega (arith, f.starts_long)
 
   pub ends_behind : get_or starts c 0 ≤ get_or starts (c + 1) 0
