@@ -1,11 +1,11 @@
 -- The walks of all clock pins in step 1 order, in the code's shape.
-use mathlib.Core.Path.{◌≡◌, refl, sym, ◌∙◌, ap, ap₂}
+use mathlib.Core.Path.{◌≡◌, refl, sym, ◌∙◌, ap}
 use mathlib.Core.Bool.{Bool, true, false}
 use mathlib.Core.List.{List, [], ◌∷◌, ◌++◌}
 use Prim.Native.Nat.{ℕ, zero, suc, ◌+◌, ◌-◌, ◌*◌, ◌<◌, ◌≤◌}
 use native.Mathlib.Numerals.{add-one}
 use native.Mathlib.Omega.{arith}
-use lib.ListN.{length, get_or, take, drop}
+use lib.ListN.{length, get_or, drop}
 use lib.Seq.{drop-cons, drop-length}
 use Rattle.std.specs.Prelude.{Result, Ok, Err}
 use Rattle.laws.specs.Tests.{or_else}
@@ -19,10 +19,10 @@ use Rattle.rules.specs.Answers.{done_of}
 use Rattle.rules.specs.Netlist.{Netlist, Kind, name_of, pins_of}
 use Rattle.rules.specs.Build.{Walk, still, root, gated, strange, far, walk, is_clock, clocks_of}
 use Rattle.rules.specs.Refusals.{walk_number, first_number, clocks_number}
-use Rattle.roles.specs.Reading.{tables, Fits, kind_at}
+use Rattle.roles.specs.Reading.{tables, Fits, cell_pins, kind_at}
 use Rattle.roles.proofs.Fitting.{laid, entry_inside}
 use Rattle.clocks.specs.declared.Walked.{Walked}
-use Rattle.clocks.specs.Walks.{end_of, told, end_number, number_if, first_by, cell_number, Span}
+use Rattle.clocks.specs.Walks.{end_of, told, end_number, number_if, first_by, cell_number}
 
 -- ---- refusals in a row
 -- a step that passes gives number 0; one that refuses gives the refusal of all
@@ -83,68 +83,65 @@ unfolding first_by
 first_more g x l = refl
 
 -- what is left to try gives the number of the whole list
-pub record Trying (g : ℕ → ℕ) (list : List ℕ) (at n i : ℕ) : Type 0 where
-  pub inside : i ≤ n
-  pub rest : first_by g (drop i (take n (drop at list))) ≡ first_by g (take n (drop at list))
+pub record Trying (g : ℕ → ℕ) (l : List ℕ) (i : ℕ) : Type 0 where
+  pub inside : i ≤ length l
+  pub rest : first_by g (drop i l) ≡ first_by g l
 
-pub trying_begins : (g : ℕ → ℕ) (list : List ℕ) (at n : ℕ) → Trying g list at n 0
-trying_begins g list at n = record { inside = omega arith; rest = refl }
+pub trying_begins : (g : ℕ → ℕ) (l : List ℕ) → Trying g l 0
+trying_begins g l = record { inside = omega arith; rest = refl }
 
-module _ (g : ℕ → ℕ) (list : List ℕ) (at n i : ℕ) (h : Span list at n) (s : Trying g list at n i) where
-  abbrev whole : List ℕ
-  whole = take n (drop at list)
+module _ (g : ℕ → ℕ) (l : List ℕ) (i : ℕ) (s : Trying g l i) where
+  trying_ends : length l ≤ i → Ok tt ≡ done_of (first_by g l)
+  trying_ends h =
+      let e : i ≡ length l = omega (arith, s.inside, h) in
+      ap done_of (sym (first_none g) ∙ ap (first_by g) (sym (drop-length l) ∙ ap (λ (j : ℕ). drop j l) (sym e)) ∙ s.rest)
 
-  whole_length : length whole ≡ n
-  unfolding part
-  whole_length = part_length list at n h.fits
+  module _ (h : i < length l) where
+    seen : or_else (g (get_or l i 0)) (first_by g (drop (i + 1) l)) ≡ first_by g l
+    seen = sym (first_more g (get_or l i 0) (drop (i + 1) l)) ∙ ap (first_by g) (ap (λ (j : ℕ). get_or l i 0 ∷ drop j l) (add-one i) ∙ sym (drop-cons l i 0 h)) ∙ s.rest
 
-  pub trying_ends : n ≤ i → Ok tt ≡ done_of (first_by g (take n (drop at list)))
-  trying_ends l =
-      let e : i ≡ length whole = omega (arith, s.inside, l, whole_length) in
-      ap done_of (sym (first_none g) ∙ ap (first_by g) (sym (drop-length whole) ∙ ap (λ (j : ℕ). drop j whole) (sym e)) ∙ s.rest)
+    trying_fails : (x : Refusal) → Err x ≡ done_of (g (get_or l i 0)) → Err x ≡ done_of (first_by g l)
+    trying_fails x e = done_first (g (get_or l i 0)) (first_by g (drop (i + 1) l)) x e ∙ ap done_of seen
 
-  module _ (l : i < n) where
-    cons : drop i whole ≡ get_or list (at + i) 0 ∷ drop (i + 1) whole
-    unfolding part
-    cons = drop-cons whole i 0 (omega (arith, l, whole_length)) ∙ ap₂ (λ (x : ℕ) (j : ℕ). x ∷ drop j whole) (part_at list at n i l) (sym (add-one i))
-
-    seen : or_else (g (get_or list (at + i) 0)) (first_by g (drop (i + 1) whole)) ≡ first_by g whole
-    seen = sym (first_more g (get_or list (at + i) 0) (drop (i + 1) whole)) ∙ ap (first_by g) (sym cons) ∙ s.rest
-
-    pub trying_fails : (x : Refusal) → Err x ≡ done_of (g (get_or list (at + i) 0)) → Err x ≡ done_of (first_by g (take n (drop at list)))
-    trying_fails x e = done_first (g (get_or list (at + i) 0)) (first_by g (drop (i + 1) whole)) x e ∙ ap done_of seen
-
-    pub trying_goes_on : Ok tt ≡ done_of (g (get_or list (at + i) 0)) → Trying g list at n (i + 1)
+    pub trying_goes_on : Ok tt ≡ done_of (g (get_or l i 0)) → Trying g l (i + 1)
     trying_goes_on e = record {
       inside = omega arith;
-      rest = sym (next-refused (g (get_or list (at + i) 0)) (first_by g (drop (i + 1) whole)) (done_zero (g (get_or list (at + i) 0)) e)) ∙ seen;
+      rest = sym (next-refused (g (get_or l i 0)) (first_by g (drop (i + 1) l)) (done_zero (g (get_or l i 0)) e)) ∙ seen;
     }
-
-pub span_below : (list : List ℕ) (at n i : ℕ) → Span list at n → i < n → get_or list (at + i) 0 < length list
-span_below list at n i h l = h.below i l
 
 -- ---- the list of a cell
 module _ (kinds starts list pins nets : List ℕ) (c : ℕ) (f : Fits (tables kinds starts list pins nets)) (lc : c < length kinds) where
-  pub start_in : c < length starts
-  start_in = omega (arith, f.starts_long)
-
-  pub end_in : c + 1 < length starts
+  end_in : c + 1 < length starts
   end_in = omega (arith, f.starts_long)
 
   pub ends_behind : get_or starts c 0 ≤ get_or starts (c + 1) 0
   ends_behind = (laid kinds starts list pins nets f).rise c end_in
 
-  pub cell_span : Span list (get_or starts c 0) (get_or starts (c + 1) 0 - get_or starts c 0)
-  cell_span = record {
-    fits = omega (arith, ends_behind, (laid kinds starts list pins nets f).within (c + 1) end_in);
-    below = λ i l. entry_inside kinds starts list pins nets f c i lc l;
-  }
+  pub ends_within : get_or starts (c + 1) 0 ≤ length list
+  ends_within = (laid kinds starts list pins nets f).within (c + 1) end_in
 
-pub cell_told : (kinds starts list pins nets : List ℕ) (c : ℕ) (r : Result (Unit {0}) Refusal)
-    → r ≡ done_of (first_by (number_if (tables kinds starts list pins nets) (kind_at (get_or kinds c 0))) (take (get_or starts (c + 1) 0 - get_or starts c 0) (drop (get_or starts c 0) list)))
-    → r ≡ done_of (cell_number (tables kinds starts list pins nets) c)
-unfolding cell_number
-cell_told kinds starts list pins nets c r e = e ∙ ap done_of (first_kept (tables kinds starts list pins nets) (kind_at (get_or kinds c 0)) (pins_of (tables kinds starts list pins nets) c))
+  pub own_below : (i : ℕ) → i < length (cell_pins starts list c) → get_or (cell_pins starts list c) i 0 < length list
+  unfolding part
+  own_below i l =
+      let q : length (cell_pins starts list c) ≡ get_or starts (c + 1) 0 - get_or starts c 0 = part_length list (get_or starts c 0) (get_or starts (c + 1) 0 - get_or starts c 0) (omega (arith, ends_behind, ends_within)) in
+      let h : i < get_or starts (c + 1) 0 - get_or starts c 0 = omega (arith, q, l) in
+      rw (part_at list (get_or starts c 0) (get_or starts (c + 1) 0 - get_or starts c 0) i h) (entry_inside kinds starts list pins nets f c i lc h)
+
+-- the number of a cell is that of its pins
+module _ (kinds starts list pins nets : List ℕ) (c i : ℕ) (s : Trying (number_if (tables kinds starts list pins nets) (kind_at (get_or kinds c 0))) (cell_pins starts list c) i) where
+  abbrev each : ℕ → ℕ
+  each = number_if (tables kinds starts list pins nets) (kind_at (get_or kinds c 0))
+
+  same_number : first_by each (cell_pins starts list c) ≡ cell_number (tables kinds starts list pins nets) c
+  unfolding cell_number
+  same_number = first_kept (tables kinds starts list pins nets) (kind_at (get_or kinds c 0)) (pins_of (tables kinds starts list pins nets) c)
+
+  pub cell_fails : (x : Refusal) → i < length (cell_pins starts list c) → Err x ≡ done_of (number_if (tables kinds starts list pins nets) (kind_at (get_or kinds c 0)) (get_or (cell_pins starts list c) i 0))
+      → Err x ≡ done_of (cell_number (tables kinds starts list pins nets) c)
+  cell_fails x l e = trying_fails each (cell_pins starts list c) i s l x e ∙ ap done_of same_number
+
+  pub cell_passes : length (cell_pins starts list c) ≤ i → Ok tt ≡ done_of (cell_number (tables kinds starts list pins nets) c)
+  cell_passes l = trying_ends each (cell_pins starts list c) i s l ∙ ap done_of same_number
 
 -- ---- the cells
 first_joined : (n : Netlist) (s t : List ℕ) → first_number n (s ++ t) ≡ or_else (first_number n s) (first_number n t)

@@ -1,5 +1,5 @@
 -- What is told of a clock walk by value, and the steps of a walk as the two functions that ask each other take them.
-use Rattle.std.specs.Prelude.{List, [], ◌∷◌, ◌++◌, ℕ, zero, suc, ◌+◌, ◌<◌, ◌≤◌, length, get_or, if◌then◌else◌, ◌==◌}
+use Rattle.std.specs.Prelude.{List, [], ◌∷◌, ◌++◌, ℕ, zero, suc, ◌+◌, length, get_or, if◌then◌else◌, ◌==◌}
 use Rattle.laws.specs.Tests.{or_else}
 use Rattle.rules.specs.declared.Edge.{Edge}
 use Rattle.rules.specs.Netlist.{Netlist, Kind, name_of}
@@ -61,8 +61,3 @@ first_by g (x ∷ l) = or_else (g x) (first_by g l)
 -- of a cell's clocks
 unfoldable pub cell_number : Netlist → ℕ → ℕ
 cell_number n c = first_number n (clocks_of n c)
-
--- n entries from a place on, each one of the pins
-pub record Span (list : List ℕ) (at n : ℕ) : Type 0 where
-  pub fits : at + n ≤ length list
-  pub below : (j : ℕ) → j < n → get_or list (at + j) 0 < length list

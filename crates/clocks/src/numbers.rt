@@ -1,11 +1,11 @@
 // The clock walks of a netlist, tested in step 1 order (refusals 8 and 9).
-ghost use Rattle.std.specs.Prelude.{◌≡◌, ℕ, ◌+◌, ◌*◌, ◌<◌, ◌≤◌, length, get_or, take, drop};
+ghost use Rattle.std.specs.Prelude.{◌≡◌, ℕ, ◌+◌, ◌*◌, ◌<◌, ◌≤◌, length};
 ghost use Rattle.rules.specs.Answers.{done_of};
 ghost use Rattle.rules.specs.Build.{is_clock};
 ghost use Rattle.rules.specs.Refusals.{clocks_number};
 ghost use Rattle.rules.specs.Tables.{netlist_in};
 ghost use Rattle.roles.specs.Reading.{Fits, kind_at};
-ghost use Rattle.clocks.specs.Walks.{Span, number_if, first_by, cell_number};
+ghost use Rattle.clocks.specs.Walks.{number_if, cell_number};
 
 use crate::{test_end, trace_clock_pin};
 use roles::pin_word;
@@ -37,19 +37,6 @@ fn test_clock(n: NetlistTables, kind: u32, p: u32) -> Result<(), Refusal>
     test_end(walk.end)
 }
 
-// Tests the walks of so many entries from a place on, of a cell of this kind.
-fn test_list(n: NetlistTables, kind: u32, at: usize, count: usize) -> Result<(), Refusal>
-    requires fits { Fits (netlist_in n) }
-    requires span { Span n.list.now at count }
-    ensures { result ≡ done_of (first_by (number_if (netlist_in n.entry) (kind_at kind)) (take count (drop at n.entry.list.now))) }
-{
-    for i in 0..count {
-        let p = n.list[at + i];
-        test_clock(n, kind, p)?;
-    }
-    Ok(())
-}
-
 // Tests the walks of a cell's clocks, in list order.
 fn test_cell(n: NetlistTables, cell: usize) -> Result<(), Refusal>
     requires fits { Fits (netlist_in n) }
@@ -59,8 +46,11 @@ fn test_cell(n: NetlistTables, cell: usize) -> Result<(), Refusal>
     let kind = n.kinds[cell];
     let at = n.starts[cell] as usize;
     let end = n.starts[cell + 1] as usize;
-    let count = end - at;
-    test_list(n, kind, at, count)
+    let own = &n.list[at..end];
+    for &p in own {
+        test_clock(n, kind, p)?;
+    }
+    Ok(())
 }
 
 // Tests the walks of all clocks, cells upward; the first that fails gives the refusal.

@@ -1,11 +1,11 @@
 // A netlist read off its words: what a pin is, the pins of a cell by their names, and where a visit goes.
 #![tactic(auto)]
 
-ghost use Rattle.std.specs.Prelude.{◌≡◌, [], ◌∷◌, ℕ, ◌+◌, ◌*◌, ◌<◌, ◌≤◌, length, get_or, take, drop};
+ghost use Rattle.std.specs.Prelude.{◌≡◌, [], ◌∷◌, ℕ, ◌+◌, ◌*◌, ◌<◌, ◌≤◌, length, get_or};
 ghost use Rattle.rules.specs.Netlist.{pin_named};
 ghost use Rattle.rules.specs.Build.{in_role, out_role, role, next};
 ghost use Rattle.rules.specs.Tables.{netlist_in};
-ghost use Rattle.roles.specs.Reading.{tables, Fits, Laid, Held, entry_of, has_name, either_in, cell_pins, kind_at, and_as, says};
+ghost use Rattle.roles.specs.Reading.{tables, Fits, Laid, entry_of, has_name, either_in, cell_pins, kind_at, and_as, says};
 
 use kinds::kind_word;
 use rules::NetlistTables;
@@ -35,34 +35,6 @@ fn has_name(pins: &[u32], p: u32, a: u32, b: u32) -> bool
     name == a || name == b
 }
 
-// Of n entries from a place on, the one at k, counted from 0, among those with one of two names.
-fn entry_named(
-    list: &[u32],
-    pins: &[u32],
-    at: usize,
-    n: usize,
-    a: u32,
-    b: u32,
-    k: usize,
-) -> Option<u32>
-    requires { Held list.now pins.now at n }
-    ensures { result ≡ entry_of (either_in pins.now a b (take n (drop at list.now))) k }
-{
-    let mut left = k;
-    for i in 0..n {
-        let p = list[at + i];
-        let hit = has_name(pins, p, a, b);
-        if !hit {
-            continue;
-        }
-        if left == 0 {
-            return Some(p);
-        }
-        left -= 1;
-    }
-    None
-}
-
 // Of a cell's pins in list order, the one at k among those with one of two names.
 pub fn cell_entry(
     starts: &[u32],
@@ -80,8 +52,19 @@ pub fn cell_entry(
     let c = cell as usize;
     let at = starts[c] as usize;
     let end = starts[c + 1] as usize;
-    let n = end - at;
-    entry_named(list, pins, at, n, a, b, k)
+    let own = &list[at..end];
+    let mut left = k;
+    for &p in own {
+        let hit = has_name(pins, p, a, b);
+        if !hit {
+            continue;
+        }
+        if left == 0 {
+            return Some(p);
+        }
+        left -= 1;
+    }
+    None
 }
 
 // The pin of a cell with a name; 0 where there is none.

@@ -1,24 +1,24 @@
 -- The test for markers, in the code's shape.
-use mathlib.Core.Path.{◌≡◌, refl, sym, ◌∙◌, ap, ap₂}
+use mathlib.Core.Path.{◌≡◌, refl, sym, ◌∙◌, ap}
 use mathlib.Core.Bool.{Bool, true, false, not, ◌&&◌}
 use mathlib.Core.List.{List, [], ◌∷◌}
 use Prim.Native.Nat.{ℕ, ◌+◌, ◌-◌, ◌*◌, ◌<◌, ◌≤◌}
-use native.Mathlib.Numerals.{add-one}
 use native.Mathlib.Omega.{arith}
-use lib.ListN.{length, get_or, take, drop}
-use lib.Seq.{drop-cons, drop-length}
+use lib.ListN.{length, get_or}
 use Rattle.std.specs.Prelude.{Option, None, Some, ◌==◌}
 use Rattle.laws.specs.Lists.{keep, every}
 use Rattle.laws.specs.Words.{part}
 use Rattle.laws.proofs.Tests.{by_test}
 use Rattle.laws.proofs.Words.{part_length, part_at}
+use borrow.Author.Count.{below_more}
+use Rattle.laws.proofs.Indices.{every_entry, every_fails}
 use Rattle.laws.proofs.Scans.{Scanned, scan_fails, scan_ends}
 use Rattle.rules.specs.Netlist.{Netlist, Kind, name_of, pins_of}
 use Rattle.rules.specs.Refusals.{must_be_logic, mark, is_none, mark_free}
-use Rattle.roles.specs.Reading.{tables, Fits, kind_at}
+use Rattle.roles.specs.Reading.{tables, Fits, cell_pins, kind_at}
 use Rattle.roles.proofs.Fitting.{laid, entry_inside}
 use Rattle.markers.specs.Marks.{mark_word}
-use Rattle.unmarked.specs.Free.{Told, Span, free_if, cell_free}
+use Rattle.unmarked.specs.Free.{Told, free_if, cell_free}
 
 -- ---- a pin
 none_word : (x : Option Bool) → (mark_word x == 0) ≡ is_none x
@@ -49,43 +49,23 @@ free_kept n k (x ∷ l) = by_test (must_be_logic k (name_of n x))
     (λ t. rw t (ap (λ (b : Bool). is_none (mark n x) && b) (free_kept n k l)))
     (λ f. rw f (free_kept n k l))
 
-pub record Trying (g : ℕ → Bool) (list : List ℕ) (at n i : ℕ) : Type 0 where
-  pub inside : i ≤ n
-  pub rest : every g (drop i (take n (drop at list))) ≡ every g (take n (drop at list))
+-- the first i entries pass
+pub record Passed (g : ℕ → Bool) (l : List ℕ) (i : ℕ) : Type 0 where
+  pub each : (k : ℕ) → k < i → g (get_or l k 0) ≡ true
 
-pub trying_begins : (g : ℕ → Bool) (list : List ℕ) (at n : ℕ) → Trying g list at n 0
-trying_begins g list at n = record { inside = omega arith; rest = refl }
+module _ (g : ℕ → Bool) (l : List ℕ) where
+  pub passed_none : Passed g l 0
+  passed_none = record { each = λ k h. absurd (omega arith) }
 
-module _ (g : ℕ → Bool) (list : List ℕ) (at n i : ℕ) (h : Span list at n) (s : Trying g list at n i) where
-  abbrev whole : List ℕ
-  whole = take n (drop at list)
+  module _ (i : ℕ) (b : Bool) (e : b ≡ g (get_or l i 0)) where
+    pub passed_more : Passed g l i → b ≡ true → Passed g l (i + 1)
+    passed_more s t = record { each = below_more (λ (k : ℕ). g (get_or l k 0) ≡ true) i s.each (sym e ∙ t) }
 
-  whole_length : length whole ≡ n
-  unfolding part
-  whole_length = part_length list at n h.fits
+    fails_here : i < length l → b ≡ false → false ≡ every g l
+    fails_here h f = sym (every_fails g 0 l i h (sym e ∙ f))
 
-  pub trying_ends : n ≤ i → true ≡ every g (take n (drop at list))
-  trying_ends l =
-      let e : i ≡ length whole = omega (arith, s.inside, l, whole_length) in
-      ap (every g) (sym (drop-length whole) ∙ ap (λ (j : ℕ). drop j whole) (sym e)) ∙ s.rest
-
-  module _ (l : i < n) where
-    pub entry_below : get_or list (at + i) 0 < length list
-    entry_below = h.below i l
-
-    cons : drop i whole ≡ get_or list (at + i) 0 ∷ drop (i + 1) whole
-    unfolding part
-    cons = drop-cons whole i 0 (omega (arith, l, whole_length)) ∙ ap₂ (λ (x : ℕ) (j : ℕ). x ∷ drop j whole) (part_at list at n i l) (sym (add-one i))
-
-    module _ (r : Bool) (e : r ≡ g (get_or list (at + i) 0)) where
-      seen : (r && every g (drop (i + 1) whole)) ≡ every g whole
-      seen = ap (λ (v : Bool). v && every g (drop (i + 1) whole)) e ∙ ap (every g) (sym cons) ∙ s.rest
-
-      pub trying_fails : r ≡ false → false ≡ every g (take n (drop at list))
-      trying_fails z = sym (ap (λ (v : Bool). v && every g (drop (i + 1) whole)) z) ∙ seen
-
-      pub trying_goes_on : r ≡ true → Trying g list at n (i + 1)
-      trying_goes_on z = record { inside = omega arith; rest = sym (ap (λ (v : Bool). v && every g (drop (i + 1) whole)) z) ∙ seen }
+  passed_all : (i : ℕ) → Passed g l i → length l ≤ i → true ≡ every g l
+  passed_all i s h = sym (every_entry g 0 l (λ k b. s.each k (omega (arith, b, h))))
 
 -- ---- a cell
 module _ (kinds starts list pins nets : List ℕ) (c : ℕ) (f : Fits (tables kinds starts list pins nets)) (lc : c < length kinds) where
@@ -95,17 +75,32 @@ module _ (kinds starts list pins nets : List ℕ) (c : ℕ) (f : Fits (tables ki
   pub ends_behind : get_or starts c 0 ≤ get_or starts (c + 1) 0
   ends_behind = (laid kinds starts list pins nets f).rise c end_in
 
-  pub cell_span : Span list (get_or starts c 0) (get_or starts (c + 1) 0 - get_or starts c 0)
-  cell_span = record {
-    fits = omega (arith, ends_behind, (laid kinds starts list pins nets f).within (c + 1) end_in);
-    below = λ i l. entry_inside kinds starts list pins nets f c i lc l;
-  }
+  pub ends_within : get_or starts (c + 1) 0 ≤ length list
+  ends_within = (laid kinds starts list pins nets f).within (c + 1) end_in
 
-pub cell_told : (kinds starts list pins nets : List ℕ) (c : ℕ) (r : Bool)
-    → r ≡ every (free_if (tables kinds starts list pins nets) (kind_at (get_or kinds c 0))) (take (get_or starts (c + 1) 0 - get_or starts c 0) (drop (get_or starts c 0) list))
-    → r ≡ cell_free (tables kinds starts list pins nets) c
-unfolding cell_free
-cell_told kinds starts list pins nets c r e = e ∙ free_kept (tables kinds starts list pins nets) (kind_at (get_or kinds c 0)) (pins_of (tables kinds starts list pins nets) c)
+  pub own_below : (i : ℕ) → i < length (cell_pins starts list c) → get_or (cell_pins starts list c) i 0 < length list
+  unfolding part
+  own_below i l =
+      let q : length (cell_pins starts list c) ≡ get_or starts (c + 1) 0 - get_or starts c 0 = part_length list (get_or starts c 0) (get_or starts (c + 1) 0 - get_or starts c 0) (omega (arith, ends_behind, ends_within)) in
+      let h : i < get_or starts (c + 1) 0 - get_or starts c 0 = omega (arith, q, l) in
+      rw (part_at list (get_or starts c 0) (get_or starts (c + 1) 0 - get_or starts c 0) i h) (entry_inside kinds starts list pins nets f c i lc h)
+
+-- the test of a cell is that of its pins
+module _ (kinds starts list pins nets : List ℕ) (c : ℕ) where
+  abbrev test : ℕ → Bool
+  test = free_if (tables kinds starts list pins nets) (kind_at (get_or kinds c 0))
+
+  same_test : every test (cell_pins starts list c) ≡ cell_free (tables kinds starts list pins nets) c
+  unfolding cell_free
+  same_test = free_kept (tables kinds starts list pins nets) (kind_at (get_or kinds c 0)) (pins_of (tables kinds starts list pins nets) c)
+
+  pub cell_fails : (i : ℕ) (b : Bool) → b ≡ free_if (tables kinds starts list pins nets) (kind_at (get_or kinds c 0)) (get_or (cell_pins starts list c) i 0) → i < length (cell_pins starts list c) → b ≡ false
+      → false ≡ cell_free (tables kinds starts list pins nets) c
+  cell_fails i b e l f = fails_here test (cell_pins starts list c) i b e l f ∙ same_test
+
+  pub cell_passes : (i : ℕ) → Passed (free_if (tables kinds starts list pins nets) (kind_at (get_or kinds c 0))) (cell_pins starts list c) i → length (cell_pins starts list c) ≤ i
+      → true ≡ cell_free (tables kinds starts list pins nets) c
+  cell_passes i s l = passed_all test (cell_pins starts list c) i s l ∙ same_test
 
 -- ---- all cells
 module _ (kinds starts list pins nets : List ℕ) (c : ℕ) where

@@ -1,5 +1,5 @@
 -- What the test for markers reads.
-use Rattle.std.specs.Prelude.{◌≡◌, Bool, not, ◌||◌, List, ℕ, ◌+◌, ◌*◌, ◌<◌, ◌≤◌, length, get_or}
+use Rattle.std.specs.Prelude.{◌≡◌, Bool, not, ◌||◌, ℕ, ◌+◌, ◌*◌, ◌<◌, ◌≤◌, length, get_or}
 use Rattle.laws.specs.Lists.{every}
 use Rattle.rules.specs.Netlist.{Netlist, Kind, size, name_of}
 use Rattle.rules.specs.Refusals.{must_be_logic, mark, is_none, logic_pins}
@@ -9,11 +9,6 @@ use Rattle.markers.specs.Marks.{mark_word}
 pub record Told (n : Netlist) (w : List ℕ) : Type 0 where
   pub long : 2 * size n ≤ length w
   pub marks : (p : ℕ) → p < size n → get_or w (size n + p) 0 ≡ mark_word (mark n p)
-
--- n entries from a place on, each one of the pins
-pub record Span (list : List ℕ) (at n : ℕ) : Type 0 where
-  pub fits : at + n ≤ length list
-  pub below : (j : ℕ) → j < n → get_or list (at + j) 0 < length list
 
 -- a pin of a cell of this kind has a logic bit where it must
 unfoldable pub free_if : Netlist → Kind → ℕ → Bool

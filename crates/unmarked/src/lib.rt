@@ -1,12 +1,11 @@
 // Whether no marker reaches a pin that must have a logic bit (refusal 10), by the words that `markers` writes.
 #![tactic(auto)]
 
-ghost use Rattle.std.specs.Prelude.{◌≡◌, ℕ, ◌+◌, ◌*◌, ◌<◌, ◌≤◌, length, get_or, take, drop};
-ghost use Rattle.laws.specs.Lists.{every};
+ghost use Rattle.std.specs.Prelude.{◌≡◌, ℕ, ◌+◌, ◌*◌, ◌<◌, ◌≤◌, length};
 ghost use Rattle.rules.specs.Refusals.{must_be_logic, mark_free};
 ghost use Rattle.rules.specs.Tables.{netlist_in};
 ghost use Rattle.roles.specs.Reading.{Fits, kind_at};
-ghost use Rattle.unmarked.specs.Free.{Told, Span, free_if, cell_free};
+ghost use Rattle.unmarked.specs.Free.{Told, free_if, cell_free};
 
 use roles::pin_word;
 use rules::NetlistTables;
@@ -40,23 +39,7 @@ fn pin_free(n: NetlistTables, work: &[u32], kind: u32, p: u32) -> bool
     !must || mark == 0
 }
 
-// The same of so many entries from a place on, of a cell of this kind.
-fn list_free(n: NetlistTables, work: &[u32], kind: u32, at: usize, count: usize) -> bool
-    requires fits { Fits (netlist_in n) }
-    requires told { Told (netlist_in n) work.now }
-    requires span { Span n.list.now at count }
-    ensures { result ≡ every (free_if (netlist_in n.entry) (kind_at kind)) (take count (drop at n.entry.list.now)) }
-{
-    for i in 0..count {
-        let free = pin_free(n, work, kind, n.list[at + i]);
-        if !free {
-            return false;
-        }
-    }
-    true
-}
-
-// The same of a cell's pins.
+// The same of all pins of a cell.
 fn cell_free(n: NetlistTables, work: &[u32], cell: usize) -> bool
     requires fits { Fits (netlist_in n) }
     requires told { Told (netlist_in n) work.now }
@@ -66,8 +49,14 @@ fn cell_free(n: NetlistTables, work: &[u32], cell: usize) -> bool
     let kind = n.kinds[cell];
     let at = n.starts[cell] as usize;
     let end = n.starts[cell + 1] as usize;
-    let count = end - at;
-    list_free(n, work, kind, at, count)
+    let own = &n.list[at..end];
+    for &p in own {
+        let free = pin_free(n, work, kind, p);
+        if !free {
+            return false;
+        }
+    }
+    true
 }
 
 // No marker reaches a pin that must have a logic bit.
