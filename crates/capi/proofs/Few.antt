@@ -3,24 +3,21 @@ use mathlib.Core.Bool.{Bool}
 use mathlib.Core.List.{List, [], ◌∷◌}
 use Prim.Native.Nat.{ℕ, ◌≤◌}
 use native.Mathlib.Omega.{arith}
-use lib.ListN.{length}
 use borrow.Author.Rules.{rules}
+use Rattle.laws.specs.Tests.{or_else, refuse}
 use Rattle.rules.specs.declared.NetlistCounts.{NetlistCounts}
 use Rattle.rules.specs.declared.Rooms.{Rooms}
 use Rattle.rules.specs.declared.GraphCounts.{GraphCounts}
 use Rattle.rules.specs.Stages.{Stage}
 use Rattle.rules.specs.Tables.{GraphWords}
-use Rattle.rules.specs.Answers.{drivers_number, fanouts_number, evaluate_number, traverse_number, graph_number, check_graph_number, split_number, stages_number, full_number, subset_number, endpoint_number, input_number, stage_input_number, BuildLengths, build_number}
+use Rattle.rules.specs.Answers.{fanouts_number, evaluate_number, traverse_number, check_graph_number, split_number, stages_number, full_number, subset_number, endpoint_number, input_number, stage_input_number, BuildLengths, build_number}
 use Rattle.rules.specs.Netlist.{Netlist}
 use Rattle.rules.specs.Build.{Walk, still, root, gated, strange, far, walk, clocks}
-use Rattle.rules.specs.Refusals.{walk_number, first_number, clocks_number}
+use Rattle.rules.specs.Refusals.{tables_number, walk_number, first_number, clocks_number, loop_free, mark_free, check_number, netlist_number}
 use Rattle.subsets.specs.Answer.{staged_number}
 use Rattle.tells.proofs.Numbers.{or_few, refuse_few}
 
 -- ---- calls on a driver table
-pub drivers_few : (pins : ℕ) (ws : List ℕ) (a b : Bool) → drivers_number pins ws a b ≤ 15
-drivers_few pins ws a b = search (rules, or_few, refuse_few)
-
 pub fanouts_few : (pins : ℕ) (ws : List ℕ) (s l : ℕ) → fanouts_number pins ws s l ≤ 15
 unfolding fanouts_number
 fanouts_few pins ws s l = search (rules, or_few, refuse_few)
@@ -83,6 +80,17 @@ first_few : (n : Netlist) (ps : List ℕ) → first_number n ps ≤ 15
 first_few n [] = omega arith
 first_few n (p ∷ ps) = or_few 15 (walk_number (walk n p)) (first_number n ps) (walk_few (walk n p)) (first_few n ps)
 
+tables_few : (n : Netlist) → tables_number n ≤ 15
+tables_few n = search (rules, or_few, refuse_few)
+
+last_few : (n : Netlist) → or_else (refuse 7 (loop_free n)) (clocks_number n) ≤ 15
+last_few n = or_few 15 (refuse 7 (loop_free n)) (clocks_number n) (refuse_few 15 7 (loop_free n) (omega arith)) (first_few n (clocks n))
+
+netlist_few : (n : Netlist) → netlist_number n ≤ 15
+netlist_few n = or_few 15 (check_number n) (refuse 10 (mark_free n))
+    (or_few 15 (tables_number n) (or_else (refuse 7 (loop_free n)) (clocks_number n)) (tables_few n) (last_few n))
+    (refuse_few 15 10 (mark_free n) (omega arith))
+
 pub build_few : (c : NetlistCounts) (r : Rooms) (n : Netlist) (l : BuildLengths) → build_number c r n l ≤ 15
 unfolding build_number
-build_few c r n l = let h : clocks_number n ≤ 15 = first_few n (clocks n) in search (rules, or_few, refuse_few, h)
+build_few c r n l = let h : netlist_number n ≤ 15 = netlist_few n in search (rules, or_few, refuse_few)
