@@ -2,6 +2,7 @@
 use Rattle.std.specs.Prelude.{Some, Result, ◌≡◌, Bool, true, false, ◌&&◌, List, ℕ, ◌+◌, ◌-◌, ◌*◌, ◌<◌, ◌≤◌, length, get_or}
 use Rattle.laws.specs.Tests.{◌≤?◌, or_else, refuse}
 use Rattle.laws.specs.Words.{part, zeros}
+use Rattle.rules.specs.declared.GraphTables.{GraphTables}
 use Rattle.rules.specs.declared.GraphCounts.{GraphCounts}
 use Rattle.rules.specs.declared.Refusal.{Refusal}
 use Rattle.rules.specs.declared.StageSize.{StageSize}
@@ -76,3 +77,10 @@ pub record Parted1 (c : GraphCounts) (ws os ds rs chosen before : List ℕ) (lev
   pub answer : r ≡ answer_of (late_number c (words_of ws os ds rs) chosen before level (length h) (length t)) (stage_size (split (graph_in c (words_of ws os ds rs)) chosen before (Some level)))
   pub handed : h' ≡ held (late_number c (words_of ws os ds rs) chosen before level (length h) (length t)) (split (graph_in c (words_of ws os ds rs)) chosen before (Some level)).handed (length h)
   pub taken : t' ≡ held (late_number c (words_of ws os ds rs) chosen before level (length h) (length t)) (split (graph_in c (words_of ws os ds rs)) chosen before (Some level)).taken (length t)
+
+-- ---- the same of a lent graph
+abbrev pub PartsIn : GraphTables → List ℕ → List ℕ → List ℕ → Type 0
+PartsIn g = Parts g.ends.counts g.drivers.now g.ends.outputs.now g.ends.dffs.now g.ends.rams.now
+
+abbrev pub PartedIn : GraphTables → List ℕ → List ℕ → ℕ → List ℕ → List ℕ → List ℕ → List ℕ → Result StageSize Refusal → Type 0
+PartedIn g = Parted1 g.ends.counts g.drivers.now g.ends.outputs.now g.ends.dffs.now g.ends.rams.now

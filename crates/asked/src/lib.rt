@@ -1,12 +1,11 @@
 // The core of a split asked alone: what the graph check leaves to test, and the split.
 #![tactic(auto)]
 
-ghost use Rattle.std.specs.Prelude.{◌≡◌, ℕ, ◌+◌, ◌*◌, ◌<◌, ◌≤◌, length};
-ghost use Rattle.laws.specs.Words.{zeros};
-ghost use Rattle.asked.specs.Answer.{lists_fit, Sound, Room, Begun, Parts, Parted1};
+ghost use Rattle.std.specs.Prelude.{◌≡◌, ◌+◌, ◌*◌, ◌<◌, ◌≤◌};
+ghost use Rattle.asked.specs.Answer.{lists_fit, Room, Begun, PartsIn, PartedIn};
 
 use members::insert_all;
-use rules::{GraphCounts, Refusal, StageSize};
+use rules::{GraphTables, Refusal, StageSize};
 use splits::{Spot, cut};
 use subsets::num_endpoint_groups;
 use walk::given::{all_below, set_stops};
@@ -43,11 +42,7 @@ fn begin(chosen: &[u32], before: &[u32], work: &mut [u32], m: usize, ends: usize
 
 // 15, 14 and 11 of a split of a graph that was checked, and the split.
 pub fn part_checked(
-    c: GraphCounts,
-    drivers: &[u32],
-    outputs: &[u32],
-    dffs: &[u32],
-    rams: &[u32],
+    g: GraphTables,
     chosen: &[u32],
     before: &[u32],
     level: u32,
@@ -55,11 +50,11 @@ pub fn part_checked(
     taken: &mut [u32],
     work: &mut [u32],
 ) -> Result<StageSize, Refusal>
-    requires { Parts c drivers.now outputs.now dffs.now rams.now handed.old taken.old work.old }
-    ensures { Parted1 c drivers.now outputs.now dffs.now rams.now chosen.now before.now level handed.old taken.old handed.new taken.new result }
+    requires { PartsIn g handed.old taken.old work.old }
+    ensures { PartedIn g.entry chosen.now before.now level handed.old taken.old handed.new taken.new result }
 {
-    let m = (c.pins as usize) + 1;
-    let ends = num_endpoint_groups(c);
+    let m = (g.ends.counts.pins as usize) + 1;
+    let ends = num_endpoint_groups(g.ends.counts);
     if !begin(chosen, before, work, m, ends) {
         return Err(Refusal::Index);
     }
@@ -70,7 +65,7 @@ pub fn part_checked(
         handed: 0,
         taken: 0,
     };
-    match cut(c, drivers, outputs, dffs, rams, work, handed, taken, at) {
+    match cut(g, work, handed, taken, at) {
         Ok(p) => Ok(StageSize {
             handed: p.handed as u32,
             taken: p.taken as u32,

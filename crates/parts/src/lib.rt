@@ -29,19 +29,7 @@ pub fn from_split(
     let tested = test_graph(g, work, lists, true);
     zero(work);
     tested?;
-    let r = part_checked(
-        g.ends.counts,
-        g.drivers,
-        g.ends.outputs,
-        g.ends.dffs,
-        g.ends.rams,
-        chosen,
-        before,
-        level,
-        handed,
-        taken,
-        work,
-    );
+    let r = part_checked(g, chosen, before, level, handed, taken, work);
     zero(work);
     r
 }

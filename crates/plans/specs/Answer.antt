@@ -3,6 +3,7 @@ use Rattle.std.specs.Prelude.{Result, ◌≡◌, Bool, ◌&&◌, List, ℕ, ◌*
 use Rattle.laws.specs.Tests.{◌≤?◌, or_else, refuse}
 use Rattle.laws.specs.Lists.{every, upto}
 use Rattle.laws.specs.Words.{zeros}
+use Rattle.rules.specs.declared.GraphTables.{GraphTables}
 use Rattle.rules.specs.declared.GraphCounts.{GraphCounts}
 use Rattle.rules.specs.declared.Refusal.{Refusal}
 use Rattle.rules.specs.declared.StagesSize.{StagesSize}
@@ -43,3 +44,10 @@ pub record Staged1 (c : GraphCounts) (ws os ds rs splits : List ℕ) (room : ℕ
   pub rows : l' ≡ held (late_number c (words_of ws os ds rs) splits room (length h) (length t)) (stage_rows (stages (graph_in c (words_of ws os ds rs)) splits)) (length l)
   pub handed : h' ≡ held (late_number c (words_of ws os ds rs) splits room (length h) (length t)) (all_handed (stages (graph_in c (words_of ws os ds rs)) splits)) (length h)
   pub taken : t' ≡ held (late_number c (words_of ws os ds rs) splits room (length h) (length t)) (all_taken (stages (graph_in c (words_of ws os ds rs)) splits)) (length t)
+
+-- ---- the same of a lent graph
+abbrev pub PlansIn : GraphTables → List ℕ → ℕ → List ℕ → List ℕ → List ℕ → List ℕ → Type 0
+PlansIn g = Plans g.ends.counts g.drivers.now g.ends.outputs.now g.ends.dffs.now g.ends.rams.now
+
+abbrev pub StagedIn : GraphTables → List ℕ → ℕ → List ℕ → List ℕ → List ℕ → List ℕ → List ℕ → List ℕ → Result StagesSize Refusal → Type 0
+StagedIn g = Staged1 g.ends.counts g.drivers.now g.ends.outputs.now g.ends.dffs.now g.ends.rams.now

@@ -1,12 +1,12 @@
 // The core of build_staged_aigs: what the graph check leaves to test, and the stages.
 #![tactic(auto)]
 
-ghost use Rattle.std.specs.Prelude.{◌≡◌, ℕ, ◌+◌, ◌*◌, ◌<◌, ◌≤◌, length};
+ghost use Rattle.std.specs.Prelude.{◌≡◌, ◌+◌, ◌*◌, ◌<◌, ◌≤◌};
 ghost use Rattle.rules.specs.Refusals.{rising};
-ghost use Rattle.plans.specs.Answer.{levels_fit, Plans, Staged1};
+ghost use Rattle.plans.specs.Answer.{levels_fit, PlansIn, StagedIn};
 
 use members::fill_up;
-use rules::{GraphCounts, Refusal, StagesSize};
+use rules::{GraphTables, Refusal, StagesSize};
 use stages::run;
 use subsets::num_endpoint_groups;
 use walk::given::all_below;
@@ -40,11 +40,7 @@ fn levels_rise(splits: &[u32]) -> bool
 
 // 13, 14 and 11 of the stages of a graph that was checked, and the stages.
 pub fn plan_checked(
-    c: GraphCounts,
-    drivers: &[u32],
-    outputs: &[u32],
-    dffs: &[u32],
-    rams: &[u32],
+    g: GraphTables,
     splits: &[u32],
     room: u32,
     rows: &mut [u32],
@@ -52,18 +48,16 @@ pub fn plan_checked(
     taken: &mut [u32],
     work: &mut [u32],
 ) -> Result<StagesSize, Refusal>
-    requires { Plans c drivers.now outputs.now dffs.now rams.now splits.now room rows.old handed.old taken.old work.old }
-    ensures { Staged1 c drivers.now outputs.now dffs.now rams.now splits.now room rows.old handed.old taken.old rows.new handed.new taken.new result }
+    requires { PlansIn g splits.now room rows.old handed.old taken.old work.old }
+    ensures { StagedIn g.entry splits.now room rows.old handed.old taken.old rows.new handed.new taken.new result }
 {
     if !levels_rise(splits) {
         return Err(Refusal::Levels);
     }
-    let m = (c.pins as usize) + 1;
-    let ends = num_endpoint_groups(c);
+    let m = (g.ends.counts.pins as usize) + 1;
+    let ends = num_endpoint_groups(g.ends.counts);
     fill_up(work, 8 * m, ends);
-    match run(
-        c, drivers, outputs, dffs, rams, splits, work, rows, handed, taken,
-    ) {
+    match run(g, splits, work, rows, handed, taken) {
         Ok(p) => Ok(StagesSize {
             stages: (p.rows / 4) as u32,
             handed: p.handed as u32,

@@ -3,6 +3,7 @@ use Rattle.std.specs.Prelude.{Some, Result, Ok, Err, ◌≡◌, ◌⊎◌, true,
 use Rattle.laws.specs.Lists.{count, member, flat, over, upto}
 use Rattle.laws.specs.Search.{visits, level}
 use Rattle.laws.specs.Words.{part}
+use Rattle.rules.specs.declared.GraphTables.{GraphTables}
 use Rattle.rules.specs.declared.GraphCounts.{GraphCounts}
 use Rattle.rules.specs.declared.Refusal.{Refusal}
 use Rattle.rules.specs.declared.Refusal.TheVariants.{NothingRead, Room}
@@ -99,3 +100,13 @@ pub record Uncut (c : GraphCounts) (ws os ds rs : List ℕ) (at : Spot) (w h t w
 abbrev pub CutOff : GraphCounts → List ℕ → List ℕ → List ℕ → List ℕ → Spot → List ℕ → List ℕ → List ℕ → List ℕ → List ℕ → List ℕ → Result Piece Refusal → Type 0
 CutOff c ws os ds rs at w h t w' h' t' (Ok p) = Cut c ws os ds rs at w h t w' h' t' p
 CutOff c ws os ds rs at w h t w' h' t' (Err e) = Uncut c ws os ds rs at w h t w' h' t' e
+
+-- ---- the same of a lent graph
+abbrev pub PreparedIn : GraphTables → ℕ → List ℕ → ℕ → List ℕ → ℕ → Type 0
+PreparedIn g = Prepared g.ends.counts g.drivers.now g.ends.outputs.now g.ends.dffs.now g.ends.rams.now
+
+abbrev pub WorkedOutIn : GraphTables → List ℕ → ℕ → ℕ → ℕ → List ℕ → List ℕ → ℕ → Type 0
+WorkedOutIn g = WorkedOut g.ends.counts g.drivers.now g.ends.outputs.now g.ends.dffs.now g.ends.rams.now
+
+abbrev pub CutOffIn : GraphTables → Spot → List ℕ → List ℕ → List ℕ → List ℕ → List ℕ → List ℕ → Result Piece Refusal → Type 0
+CutOffIn g = CutOff g.ends.counts g.drivers.now g.ends.outputs.now g.ends.dffs.now g.ends.rams.now

@@ -2,6 +2,7 @@
 use Rattle.std.specs.Prelude.{Result, Ok, Err, ◌≡◌, ◌⊎◌, true, false, List, ℕ, ◌+◌, ◌-◌, ◌*◌, ◌<◌, ◌≤◌, length, get_or}
 use Rattle.laws.specs.Lists.{upto}
 use Rattle.laws.specs.Words.{part}
+use Rattle.rules.specs.declared.GraphTables.{GraphTables}
 use Rattle.rules.specs.declared.GraphCounts.{GraphCounts}
 use Rattle.rules.specs.declared.Refusal.{Refusal}
 use Rattle.rules.specs.declared.Refusal.TheVariants.{NothingRead, Room}
@@ -69,3 +70,10 @@ pub record Unlaid (c : GraphCounts) (ws os ds rs splits w l h t w' l' h' t' : Li
 abbrev pub Planned : GraphCounts → List ℕ → List ℕ → List ℕ → List ℕ → List ℕ → List ℕ → List ℕ → List ℕ → List ℕ → List ℕ → List ℕ → List ℕ → List ℕ → Result Plan Refusal → Type 0
 Planned c ws os ds rs splits w l h t w' l' h' t' (Ok r) = Laid c ws os ds rs splits w l h t w' l' h' t' r
 Planned c ws os ds rs splits w l h t w' l' h' t' (Err e) = Unlaid c ws os ds rs splits w l h t w' l' h' t' e
+
+-- ---- the same of a lent graph
+abbrev pub StartIn : GraphTables → List ℕ → List ℕ → List ℕ → List ℕ → List ℕ → Type 0
+StartIn g = Start g.ends.counts g.drivers.now g.ends.outputs.now g.ends.dffs.now g.ends.rams.now
+
+abbrev pub PlannedIn : GraphTables → List ℕ → List ℕ → List ℕ → List ℕ → List ℕ → List ℕ → List ℕ → List ℕ → List ℕ → Result Plan Refusal → Type 0
+PlannedIn g = Planned g.ends.counts g.drivers.now g.ends.outputs.now g.ends.dffs.now g.ends.rams.now

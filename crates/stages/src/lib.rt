@@ -1,10 +1,10 @@
 // The stages of a graph that was checked, one after the other.
 #![tactic(auto)]
 
-ghost use Rattle.std.specs.Prelude.{◌≡◌, ℕ, ◌+◌, ◌*◌, ◌<◌, ◌≤◌, length, get_or};
-ghost use Rattle.stages.specs.State.{LevelAt, Start, Planned};
+ghost use Rattle.std.specs.Prelude.{◌≡◌, ◌+◌, ◌*◌, ◌<◌, ◌≤◌, length, get_or};
+ghost use Rattle.stages.specs.State.{LevelAt, StartIn, PlannedIn};
 
-use rules::{GraphCounts, Refusal};
+use rules::{GraphTables, Refusal};
 use subsets::num_endpoint_groups;
 use turns::{Plan, Run, Step, stage};
 use words::word;
@@ -34,32 +34,26 @@ fn level_at(splits: &[u32], i: usize, lower: u32) -> Level
 
 // All stages; how many words of the tables are used then. Refused where nothing is read, and where a table is too small.
 pub fn run(
-    c: GraphCounts,
-    drivers: &[u32],
-    outputs: &[u32],
-    dffs: &[u32],
-    rams: &[u32],
+    g: GraphTables,
     splits: &[u32],
     work: &mut [u32],
     rows: &mut [u32],
     handed: &mut [u32],
     taken: &mut [u32],
 ) -> Result<Plan, Refusal>
-    requires { Start c drivers.now outputs.now dffs.now rams.now splits.now work.old rows.old handed.old taken.old }
-    ensures { Planned c drivers.now outputs.now dffs.now rams.now splits.now work.old rows.old handed.old taken.old work.new rows.new handed.new taken.new result }
+    requires { StartIn g splits.now work.old rows.old handed.old taken.old }
+    ensures { PlannedIn g.entry splits.now work.old rows.old handed.old taken.old work.new rows.new handed.new taken.new result }
 {
     let mut at = Run {
         lower: 0,
-        left: num_endpoint_groups(c),
+        left: num_endpoint_groups(g.ends.counts),
         rows: 0,
         handed: 0,
         taken: 0,
     };
     for i in 0..=splits.len() {
         let b = level_at(splits, i, at.lower);
-        let step = stage(
-            c, drivers, outputs, dffs, rams, work, rows, handed, taken, at, b.upper, b.d,
-        )?;
+        let step = stage(g, work, rows, handed, taken, at, b.upper, b.d)?;
         match step {
             Step::More(next) => at = next,
             Step::Last(plan) => return Ok(plan),

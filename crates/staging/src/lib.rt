@@ -31,19 +31,7 @@ pub fn build_staged_aigs(
     let tested = test_graph(g, work, levels, rows.len() == long);
     zero(work);
     tested?;
-    let r = plan_checked(
-        g.ends.counts,
-        g.drivers,
-        g.ends.outputs,
-        g.ends.dffs,
-        g.ends.rams,
-        splits,
-        room,
-        rows,
-        handed,
-        taken,
-        work,
-    );
+    let r = plan_checked(g, splits, room, rows, handed, taken, work);
     zero(work);
     r
 }

@@ -3,6 +3,7 @@ use Rattle.std.specs.Prelude.{Some, Result, Ok, Err, ◌≡◌, ◌⊎◌, true,
 use Rattle.laws.specs.Lists.{count, over, is_nil}
 use Rattle.laws.specs.Sets.{remove}
 use Rattle.laws.specs.Words.{part}
+use Rattle.rules.specs.declared.GraphTables.{GraphTables}
 use Rattle.rules.specs.declared.GraphCounts.{GraphCounts}
 use Rattle.rules.specs.declared.Refusal.{Refusal}
 use Rattle.rules.specs.declared.Refusal.TheVariants.{NothingRead, Room}
@@ -81,3 +82,10 @@ abbrev pub Turned : GraphCounts → List ℕ → List ℕ → List ℕ → List 
 Turned c ws os ds rs w l h t at upper d w' l' h' t' (Ok (Last r)) = Ended c ws os ds rs w l h t at d w' l' h' t' r
 Turned c ws os ds rs w l h t at upper d w' l' h' t' (Ok (More r)) = GoesOn c ws os ds rs w l h t at upper d w' l' h' t' r
 Turned c ws os ds rs w l h t at upper d w' l' h' t' (Err e) = Stopped c ws os ds rs w l h t at d w' l' h' t' e
+
+-- ---- the same of a lent graph
+abbrev pub TurnIn : GraphTables → List ℕ → List ℕ → List ℕ → List ℕ → Run → Type 0
+TurnIn g = Turn g.ends.counts g.drivers.now g.ends.outputs.now g.ends.dffs.now g.ends.rams.now
+
+abbrev pub TurnedIn : GraphTables → List ℕ → List ℕ → List ℕ → List ℕ → Run → ℕ → ℕ → List ℕ → List ℕ → List ℕ → List ℕ → Result Step Refusal → Type 0
+TurnedIn g = Turned g.ends.counts g.drivers.now g.ends.outputs.now g.ends.dffs.now g.ends.rams.now

@@ -1,10 +1,10 @@
 // One stage: a split of the endpoints left, its row, and the words made ready for the next one.
 #![tactic(auto)]
 
-ghost use Rattle.std.specs.Prelude.{◌≡◌, ℕ, ◌+◌, ◌*◌, ◌<◌, ◌≤◌, length};
-ghost use Rattle.turns.specs.State.{Turn, Turned};
+ghost use Rattle.std.specs.Prelude.{◌≡◌, ◌+◌, ◌*◌, ◌<◌, ◌≤◌};
+ghost use Rattle.turns.specs.State.{TurnIn, TurnedIn};
 
-use rules::{GraphCounts, Refusal};
+use rules::{GraphTables, Refusal};
 use settles::{push_row, settle};
 use splits::{Spot, cut};
 use subsets::num_endpoint_groups;
@@ -37,11 +37,7 @@ pub enum Step {
 // A stage by a difference d of levels. A stage that hands nothing on is the last and has no upper end. It is refused where
 // nothing is read, and where a table has too little room.
 pub fn stage(
-    c: GraphCounts,
-    drivers: &[u32],
-    outputs: &[u32],
-    dffs: &[u32],
-    rams: &[u32],
+    g: GraphTables,
     work: &mut [u32],
     rows: &mut [u32],
     handed: &mut [u32],
@@ -50,11 +46,11 @@ pub fn stage(
     upper: u32,
     d: u32,
 ) -> Result<Step, Refusal>
-    requires { Turn c drivers.now outputs.now dffs.now rams.now work.old rows.old handed.old taken.old at }
-    ensures { Turned c drivers.now outputs.now dffs.now rams.now work.old rows.old handed.old taken.old at upper d work.new rows.new handed.new taken.new result }
+    requires { TurnIn g work.old rows.old handed.old taken.old at }
+    ensures { TurnedIn g.entry work.old rows.old handed.old taken.old at upper d work.new rows.new handed.new taken.new result }
 {
-    let m = (c.pins as usize) + 1;
-    let ends = num_endpoint_groups(c);
+    let m = (g.ends.counts.pins as usize) + 1;
+    let ends = num_endpoint_groups(g.ends.counts);
     let spot = Spot {
         m,
         d,
@@ -62,7 +58,7 @@ pub fn stage(
         handed: at.handed,
         taken: at.taken,
     };
-    let r = cut(c, drivers, outputs, dffs, rams, work, handed, taken, spot)?;
+    let r = cut(g, work, handed, taken, spot)?;
     let pins = r.handed - at.handed;
     let count = r.taken - at.taken;
     let taking = count as u32;

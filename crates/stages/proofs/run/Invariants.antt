@@ -3,4 +3,4 @@ use Rattle.stages.proofs.run.Given as goal
 
 abbrev pub invariant-loop-i : goal.invariant-loop-i
 invariant-loop-i l =
-    Staging l.c l.drivers l.outputs l.dffs l.rams l.splits l.initial.work l.initial.rows l.initial.handed l.initial.taken l.work l.rows l.handed l.taken l.at.lower l.at.left l.at.rows l.at.handed l.at.taken l.i
+    Staging l.g.ends.counts l.g.drivers.now l.g.ends.outputs.now l.g.ends.dffs.now l.g.ends.rams.now l.splits l.initial.work l.initial.rows l.initial.handed l.initial.taken l.work l.rows l.handed l.taken l.at.lower l.at.left l.at.rows l.at.handed l.at.taken l.i
