@@ -1,5 +1,5 @@
 -- What the test for markers reads.
-use Rattle.std.specs.Prelude.{◌≡◌, Bool, not, ◌||◌, ℕ, ◌+◌, ◌*◌, ◌<◌, ◌≤◌, length, get_or}
+use Rattle.std.specs.Prelude.{◌≡◌, Bool, not, ◌||◌, List, ℕ, ◌+◌, ◌*◌, ◌<◌, ◌≤◌, length, get_or}
 use Rattle.laws.specs.Lists.{every}
 use Rattle.rules.specs.Netlist.{Netlist, Kind, size, name_of}
 use Rattle.rules.specs.Refusals.{must_be_logic, mark, is_none, logic_pins}
