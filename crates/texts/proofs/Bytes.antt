@@ -8,6 +8,7 @@ use native.Mathlib.Numerals.{add-one}
 use borrow.Author.Tests.{eqb-true, eqb-false, eq-eqb, ne_eqb, le-leb, lt-leb, leb-true, leb-false}
 use lib.ListN.{length, get_or, take, drop, set, length-drop, length-set}
 use lib.Seq.{drop-cons, drop-length, drop-drop}
+use Rattle.std.proofs.Common.{◌⊎◌, inl, inr}
 use Rattle.std.specs.Prelude.{Option, Some, None, ◌==◌}
 use Rattle.laws.specs.Tests.{◌≤?◌}
 use Rattle.laws.proofs.Tests.{by_test, if_true, if_false}
@@ -117,11 +118,9 @@ module _ (s : List ℕ) (i v : ℕ) (g : Reckoned s i v) (in-s : i < length s) w
     inside = omega arith;
   }
 
-  pub reckon_low : get_or s i 0 < 48 → None ≡ digits 0 s
-  reckon_low l = sym (from ∙ digits_low v (get_or s i 0) (drop (suc i) s) l)
-
-  pub reckon_high : 57 < get_or s i 0 → None ≡ digits 0 s
-  reckon_high l = sym (from ∙ digits_high v (get_or s i 0) (drop (suc i) s) l)
+  pub reckon_none : (get_or s i 0 < 48) ⊎ ((48 ≤ get_or s i 0) × (57 < get_or s i 0)) → None ≡ digits 0 s
+  reckon_none (inl l) = sym (from ∙ digits_low v (get_or s i 0) (drop (suc i) s) l)
+  reckon_none (inr (_, l)) = sym (from ∙ digits_high v (get_or s i 0) (drop (suc i) s) l)
 
   pub reckon_large : 48 ≤ get_or s i 0 → get_or s i 0 ≤ 57 → 4294967295 < 10 * v + (get_or s i 0 - 48) → None ≡ digits 0 s
   reckon_large l h m = sym (from ∙ digits_large v (get_or s i 0) (drop (suc i) s) l h m)
@@ -138,23 +137,18 @@ unfolding number_of
 number_empty [] e = refl
 number_empty (x ∷ xs) e = absurd (omega (arith, eqb-true (length (x ∷ xs)) 0 (sym e)))
 
-pub number-single : (s : List ℕ) (r : Option ℕ) → length s ≡ 1 → r ≡ digits 0 s → r ≡ number_of s
+pub number-leading : (s : List ℕ) → 1 < length s → get_or s 0 0 ≡ 48 → None ≡ number_of s
 unfolding number_of
-number-single [] r e q = absurd (omega (arith, e))
-number-single (x ∷ []) r e q = q
-number-single (x ∷ y ∷ xs) r e q = absurd (omega (arith, e))
+number-leading [] l e = absurd (omega (arith, l))
+number-leading (x ∷ []) l e = absurd (omega (arith, l))
+number-leading (x ∷ y ∷ xs) l e = rw (eq-eqb x 48 e)
 
-pub number-leading : (s : List ℕ) → false ≡ (length s == 0) → (length s ≡ 1 → ⊥) → get_or s 0 0 ≡ 48 → None ≡ number_of s
+pub number_is : (s : List ℕ) (r : Option ℕ) → false ≡ (length s == 0) → (length s ≤ 1) ⊎ ((1 < length s) × (get_or s 0 0 ≡ 48 → ⊥)) → r ≡ digits 0 s → r ≡ number_of s
 unfolding number_of
-number-leading [] z o e = cc
-number-leading (x ∷ []) z o e = absurd (o refl)
-number-leading (x ∷ y ∷ xs) z o e = rw (eq-eqb x 48 e)
-
-pub number_many : (s : List ℕ) (r : Option ℕ) → false ≡ (length s == 0) → (length s ≡ 1 → ⊥) → (get_or s 0 0 ≡ 48 → ⊥) → r ≡ digits 0 s → r ≡ number_of s
-unfolding number_of
-number_many [] r z o n e = cc
-number_many (x ∷ []) r z o n e = absurd (o refl)
-number_many (x ∷ y ∷ xs) r z o n e = rw (ne_eqb x 48 n) e
+number_is [] r z o e = cc
+number_is (x ∷ []) r z o e = e
+number_is (x ∷ y ∷ xs) r z (inl l) e = absurd (omega (arith, l))
+number_is (x ∷ y ∷ xs) r z (inr (_, n)) e = rw (ne_eqb x 48 n) e
 
 -- ---- words stored
 pub stored-length : (ws t : List ℕ) (i : ℕ) → length (stored t i ws) ≡ length t

@@ -77,10 +77,7 @@ fn value_of(s: &[u8]) -> Option<u32>
 {
     let mut v = 0u32;
     for &b in s {
-        if b < b'0' {
-            return None;
-        }
-        if b'9' < b {
+        if b < b'0' || b'9' < b {
             return None;
         }
         let w = 10 * u64::from(v) + u64::from(b - b'0');
@@ -99,10 +96,7 @@ pub fn number(s: &[u8]) -> Option<u32>
     if s.is_empty() {
         return None;
     }
-    if s.len() == 1 {
-        return value_of(s);
-    }
-    if s[0] == b'0' {
+    if 1 < s.len() && s[0] == b'0' {
         return None;
     }
     value_of(s)

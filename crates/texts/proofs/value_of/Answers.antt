@@ -1,4 +1,4 @@
-use Rattle.texts.proofs.Bytes.{reckon_begins, reckon_goes_on, reckon_low, reckon_high, reckon_large, reckon_ends}
+use Rattle.texts.proofs.Bytes.{reckon_begins, reckon_goes_on, reckon_none, reckon_large, reckon_ends}
 use native.Mathlib.Omega.{arith}
 use Rattle.texts.proofs.value_of.Goals as goal
 
@@ -6,10 +6,7 @@ pub loop-b-init : goal.loop-b-init
 loop-b-init c = search reckon_begins
 
 pub returns-then-b-lt48 : goal.returns-then-b-lt48
-returns-then-b-lt48 c = search reckon_low
-
-pub returns-then-b-gt57 : goal.returns-then-b-gt57
-returns-then-b-gt57 c = search reckon_high
+returns-then-b-lt48 c = search reckon_none
 
 pub returns-then-w-gt4294967295 : goal.returns-then-w-gt4294967295
 returns-then-w-gt4294967295 c = search (arith, reckon_large)
