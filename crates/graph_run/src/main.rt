@@ -6,7 +6,7 @@ use fanouts::fanouts;
 use graphs::check_graph;
 use inputs::{endpoint_input, staged_input};
 use prints::print_words;
-use rules::{Done, Endpoint, Found, GraphCounts, Listed, Read};
+use rules::{EndTables, Endpoint, GraphCounts, GraphTables, Refusal};
 use std::io;
 use subsets::{get_endpoint_group, staged_endpoint_group};
 use traverse::topo_traverse_generic;
@@ -23,59 +23,63 @@ const M1: [u32; 12] = [0, 0, 0, 2, 0, 0, 2, 1, 0, 1, 3, 5];
 // A clock flag, a port, a flip-flop and two read-data pins of a RAM.
 const FLOP: [u32; 18] = [0, 0, 0, 3, 0, 0, 2, 1, 0, 4, 1, 0, 5, 2, 0, 5, 2, 0];
 
-fn number(d: Done) -> u32 {
-    match d {
-        Done::Accepted => 0,
-        Done::Refused(k) => k,
+fn number(r: Result<(), Refusal>) -> u32 {
+    match r {
+        Ok(()) => 0,
+        Err(e) => e.number(),
     }
 }
 
 // What is left of work words: 0 where they are all 0.
 fn left(work: &[u32]) -> u32 {
-    if all_zero(work) {
-        return 0;
-    }
-    1
+    if all_zero(work) { 0 } else { 1 }
 }
 
-fn check(
-    rt: &impl Print,
-    label: &[u8],
-    c: GraphCounts,
-    drivers: &[u32],
-    outputs: &[u32],
-    dffs: &[u32],
-    rams: &[u32],
-) -> io::Result<()> {
+fn check(rt: &impl Print, label: &[u8], g: GraphTables) -> io::Result<()> {
     let mut work = [7u32; 400];
-    let k = number(check_graph(c, drivers, outputs, dffs, rams, &mut work));
+    let k = number(check_graph(g, &mut work));
     print_words(rt, label, &[k, left(&work)])
 }
 
-fn counts(pins: u32, outputs: u32, dffs: u32, rams: u32) -> GraphCounts {
+// The counts of a graph without records.
+fn counts(pins: u32, outputs: u32) -> GraphCounts {
     GraphCounts {
-        pins: pins,
-        outputs: outputs,
-        dffs: dffs,
-        rams: rams,
+        pins,
+        outputs,
+        dffs: 0,
+        rams: 0,
+    }
+}
+
+// A graph without records.
+fn plain<'a>(counts: GraphCounts, drivers: &'a [u32], outputs: &'a [u32]) -> GraphTables<'a> {
+    let ends = EndTables {
+        counts,
+        outputs,
+        dffs: &[],
+        rams: &[],
+    };
+    GraphTables { ends, drivers }
+}
+
+// The counts of a graph with an output, a flip-flop and a RAM.
+fn one_of_each() -> GraphCounts {
+    GraphCounts {
+        pins: 5,
+        outputs: 1,
+        dffs: 1,
+        rams: 1,
     }
 }
 
 // A graph of one gate, with its three words and pin 0's first.
 fn gate(rt: &impl Print, label: &[u8], first: u32, tag: u32, a: u32, b: u32) -> io::Result<()> {
-    check(
-        rt,
-        label,
-        counts(3, 0, 0, 0),
-        &[first, 0, 0, 2, 0, 0, 2, 1, 0, tag, a, b],
-        &[],
-        &[],
-        &[],
-    )
+    let drivers = [first, 0, 0, 2, 0, 0, 2, 1, 0, tag, a, b];
+    check(rt, label, plain(counts(3, 0), &drivers, &[]))
 }
 
 fn checks(rt: &impl Print) -> io::Result<()> {
-    check(rt, b"m9", counts(7, 1, 0, 0), &M9, &[14], &[], &[])?;
+    check(rt, b"m9", plain(counts(7, 1), &M9, &[14]))?;
     gate(rt, b"gate", 0, 1, 3, 5)?;
     gate(rt, b"pin 0 a port", 2, 1, 3, 5)?;
     gate(rt, b"another constant", 0, 0, 0, 0)?;
@@ -100,14 +104,20 @@ fn records(
     let mut ram = [0u32; 123];
     ram[14] = first;
     ram[45] = second;
+    let dffs = [next, 2, pin];
+    let ends = EndTables {
+        counts: one_of_each(),
+        outputs: &[4],
+        dffs: &dffs,
+        rams: &ram,
+    };
     check(
         rt,
         label,
-        counts(5, 1, 1, 1),
-        &FLOP,
-        &[4],
-        &[next, 2, pin],
-        &ram,
+        GraphTables {
+            ends,
+            drivers: &FLOP,
+        },
     )
 }
 
@@ -119,34 +129,14 @@ fn record_checks(rt: &impl Print) -> io::Result<()> {
     records(rt, b"read data twice", 4, 3, 4, 4)?;
     records(rt, b"read data missing", 4, 3, 4, 0)?;
     records(rt, b"read data of the flip-flop", 4, 3, 3, 5)?;
-    check(
-        rt,
-        b"output twice",
-        counts(7, 2, 0, 0),
-        &M9,
-        &[14, 14],
-        &[],
-        &[],
-    )?;
-    check(rt, b"output past", counts(7, 1, 0, 0), &M9, &[16], &[], &[])?;
-    check(rt, b"short table", counts(8, 1, 0, 0), &M9, &[14], &[], &[])?;
-    check(
-        rt,
-        b"too many pins",
-        counts(16777216, 1, 0, 0),
-        &M9,
-        &[14],
-        &[],
-        &[],
-    )?;
+    check(rt, b"output twice", plain(counts(7, 2), &M9, &[14, 14]))?;
+    check(rt, b"output past", plain(counts(7, 1), &M9, &[16]))?;
+    check(rt, b"short table", plain(counts(8, 1), &M9, &[14]))?;
+    check(rt, b"too many pins", plain(counts(16777216, 1), &M9, &[14]))?;
     check(
         rt,
         b"too many outputs",
-        counts(7, 1048577, 0, 0),
-        &M9,
-        &[14],
-        &[],
-        &[],
+        plain(counts(7, 1048577), &M9, &[14]),
     )
 }
 
@@ -160,8 +150,8 @@ fn traverse(
 ) -> io::Result<()> {
     let mut work = [7u32; 160];
     let k = match topo_traverse_generic(&M9, 7, given, roots, handed, order, &mut work) {
-        Listed::Pins(_) => 0,
-        Listed::Refused(n) => n,
+        Ok(_) => 0,
+        Err(e) => e.number(),
     };
     print_words(rt, label, &[k, left(&work)])?;
     print_words(rt, b"  order", order)
@@ -213,82 +203,64 @@ fn fan_cases(rt: &impl Print) -> io::Result<()> {
 }
 
 // An endpoint as two words: its case and its index; a refusal as 9 and its number.
-fn print_group(rt: &impl Print, label: &[u8], f: Found) -> io::Result<()> {
-    match f {
-        Found::At(e) => match e {
-            Endpoint::Output(k) => print_words(rt, label, &[0, k]),
-            Endpoint::Flop(k) => print_words(rt, label, &[1, k]),
-            Endpoint::Memory(k) => print_words(rt, label, &[2, k]),
-            Endpoint::Handed(p) => print_words(rt, label, &[3, p]),
-        },
-        Found::Refused(n) => print_words(rt, label, &[9, n]),
+fn print_group(rt: &impl Print, label: &[u8], r: Result<Endpoint, Refusal>) -> io::Result<()> {
+    match r {
+        Ok(Endpoint::Output(k)) => print_words(rt, label, &[0, k]),
+        Ok(Endpoint::Flop(k)) => print_words(rt, label, &[1, k]),
+        Ok(Endpoint::Memory(k)) => print_words(rt, label, &[2, k]),
+        Ok(Endpoint::Handed(p)) => print_words(rt, label, &[3, p]),
+        Err(e) => print_words(rt, label, &[9, e.number()]),
     }
 }
 
-fn print_read(rt: &impl Print, label: &[u8], r: Read) -> io::Result<()> {
+fn print_read(rt: &impl Print, label: &[u8], r: Result<u32, Refusal>) -> io::Result<()> {
     match r {
-        Read::Pin(p) => print_words(rt, label, &[0, p]),
-        Read::Refused(n) => print_words(rt, label, &[9, n]),
+        Ok(p) => print_words(rt, label, &[0, p]),
+        Err(e) => print_words(rt, label, &[9, e.number()]),
     }
 }
 
 // An output, a flip-flop that reads a constant and pin 2, and a RAM that reads pins 1 and 2.
 fn lookups(rt: &impl Print) -> io::Result<()> {
-    let c = counts(5, 1, 1, 1);
+    let c = one_of_each();
     let mut ram = [0u32; 123];
     ram[0] = 2;
     ram[60] = 5;
+    let ends = EndTables {
+        counts: c,
+        outputs: &[4],
+        dffs: &[5, 0, 3],
+        rams: &ram,
+    };
     print_group(rt, b"endpoint 0", get_endpoint_group(c, 0))?;
     print_group(rt, b"endpoint 1", get_endpoint_group(c, 1))?;
     print_group(rt, b"endpoint 2", get_endpoint_group(c, 2))?;
     print_group(rt, b"endpoint 3", get_endpoint_group(c, 3))?;
-    print_read(
-        rt,
-        b"input 0 of the output",
-        endpoint_input(c, &[4], &[5, 0, 3], &ram, 0, 0),
-    )?;
-    print_read(
-        rt,
-        b"input 1 of the output",
-        endpoint_input(c, &[4], &[5, 0, 3], &ram, 0, 1),
-    )?;
-    print_read(
-        rt,
-        b"input 0 of the flip-flop",
-        endpoint_input(c, &[4], &[5, 0, 3], &ram, 1, 0),
-    )?;
-    print_read(
-        rt,
-        b"input 0 of the RAM",
-        endpoint_input(c, &[4], &[5, 0, 3], &ram, 2, 0),
-    )?;
-    print_read(
-        rt,
-        b"input 1 of the RAM",
-        endpoint_input(c, &[4], &[5, 0, 3], &ram, 2, 1),
-    )?;
-    print_read(
-        rt,
-        b"input 2 of the RAM",
-        endpoint_input(c, &[4], &[5, 0, 3], &ram, 2, 2),
-    )?;
-    print_read(
-        rt,
-        b"input of endpoint 3",
-        endpoint_input(c, &[4], &[5, 0, 3], &ram, 3, 0),
-    )?;
-    print_read(
-        rt,
-        b"short table",
-        endpoint_input(c, &[], &[5, 0, 3], &ram, 0, 0),
-    )
+    print_read(rt, b"input 0 of the output", endpoint_input(ends, 0, 0))?;
+    print_read(rt, b"input 1 of the output", endpoint_input(ends, 0, 1))?;
+    print_read(rt, b"input 0 of the flip-flop", endpoint_input(ends, 1, 0))?;
+    print_read(rt, b"input 0 of the RAM", endpoint_input(ends, 2, 0))?;
+    print_read(rt, b"input 1 of the RAM", endpoint_input(ends, 2, 1))?;
+    print_read(rt, b"input 2 of the RAM", endpoint_input(ends, 2, 2))?;
+    print_read(rt, b"input of endpoint 3", endpoint_input(ends, 3, 0))?;
+    let short = EndTables {
+        outputs: &[],
+        ..ends
+    };
+    print_read(rt, b"short table", endpoint_input(short, 0, 0))
 }
 
 // A stage that hands on pins 4 and 0 and takes endpoints 2 and 7.
 fn stage_lookups(rt: &impl Print) -> io::Result<()> {
-    let c = counts(5, 1, 1, 1);
+    let c = one_of_each();
     let mut ram = [0u32; 123];
     ram[0] = 2;
+    let ends = EndTables {
+        counts: c,
+        outputs: &[4],
+        dffs: &[5, 0, 3],
+        rams: &ram,
+    };
     print_group(
         rt,
         b"place 0",
@@ -312,22 +284,22 @@ fn stage_lookups(rt: &impl Print) -> io::Result<()> {
     print_read(
         rt,
         b"input of place 0",
-        staged_input(c, &[4], &[5, 0, 3], &ram, &[4, 0], &[2, 7], 0, 0),
+        staged_input(ends, &[4, 0], &[2, 7], 0, 0),
     )?;
     print_read(
         rt,
         b"input of place 1",
-        staged_input(c, &[4], &[5, 0, 3], &ram, &[4, 0], &[2, 7], 1, 0),
+        staged_input(ends, &[4, 0], &[2, 7], 1, 0),
     )?;
     print_read(
         rt,
         b"input of place 2",
-        staged_input(c, &[4], &[5, 0, 3], &ram, &[4, 0], &[2, 7], 2, 0),
+        staged_input(ends, &[4, 0], &[2, 7], 2, 0),
     )?;
     print_read(
         rt,
         b"input of place 3",
-        staged_input(c, &[4], &[5, 0, 3], &ram, &[4, 0], &[2, 7], 3, 0),
+        staged_input(ends, &[4, 0], &[2, 7], 3, 0),
     )
 }
 
