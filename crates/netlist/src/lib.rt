@@ -27,7 +27,7 @@ pub fn netlist_within(c: NetlistCounts) -> bool
     (1..=1048576).contains(&c.cells) && c.pins <= 1048576 && c.nets <= 1048576
 }
 
-// 2: tables of the lengths of their counts.
+// 2: tables of the lengths of their counts; by the lengths alone, which is how building asks.
 #[tactic(auto, unfolding(crate::specs::Tables::long_by))]
 pub fn netlist_long(
     c: NetlistCounts,
