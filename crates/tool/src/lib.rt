@@ -105,6 +105,7 @@ fn used<'a>(
     }
 }
 
+// How many of each the tables of put_built hold.
 const ROOMS: Rooms = Rooms {
     pins: 1024,
     outputs: 512,
@@ -139,6 +140,7 @@ fn put_built(out: &mut [u8], c: NetlistCounts, n: NetlistTables, levels: &[u32])
     );
     match built {
         Ok(t) => {
+            // Never so, since a graph fits the rooms; the test shows what put_pins requires.
             if ROOMS.pins < t.pins {
                 return put_refusal(out, Refusal::Room);
             }
