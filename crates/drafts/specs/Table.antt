@@ -55,13 +55,22 @@ drivers_of d = drafted d.drivers.now d.tally
 abbrev pub Open : Draft → Type 0
 Open d = Table d.at d.work.now d.drivers.now d.tally
 
+-- what a step answers, with the tallies that the draft has after it
 abbrev pub added : Option Literal → Tally → Option Added
 added (Some l) t = Some (record { lit = l; tally = t })
 added None t = None
 
--- it goes on with the same tables, of which the drivers are those of m now; or the driver table has no room for them
-pub record Adds (m : Made) (d d' : Draft) (r : Option Literal) : Type 0 where
+abbrev pub counted : Option (Unit {0}) → Tally → Option Tally
+counted (Some u) t = Some t
+counted None t = None
+
+-- the draft goes on with the tables that it was lent, and with its place in the work words
+pub record SameLoans (d d' : Draft) : Type 0 where
   pub drivers : d'.drivers.ghost_name ≡ d.drivers.ghost_name
   pub work : d'.work.ghost_name ≡ d.work.ghost_name
   pub place : d'.at ≡ d.at
+
+-- the drivers are those of m now; or the driver table has no room for them
+pub record Adds (m : Made) (d d' : Draft) (r : Option Literal) : Type 0 where
+  pub loans : SameLoans d d'
   pub extends : Extends d.at m d.work.now d.drivers.now d.tally d'.work.now d'.drivers.now (added r d'.tally)

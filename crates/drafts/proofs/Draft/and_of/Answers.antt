@@ -9,4 +9,4 @@ gate_counted-self-requires c =
     record { pins_bound = p.0; gates_le_pins = p.1.0; pins_le_pins = p.1.1.0; pins_bound_2 = p.1.1.1 }
 
 pub returns : goal.returns
-returns c = record { drivers = refl; work = refl; place = refl; extends = search (and_made, c.in_ok-step.ensures) }
+returns c = record { loans = record { drivers = refl; work = refl; place = refl }; extends = search (and_made, c.in_ok-step.ensures) }
