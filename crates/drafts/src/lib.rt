@@ -40,7 +40,8 @@ impl Draft<'_> {
     pub fn push(&mut self, d: Driver) -> Option<Literal>
         requires open { Open self.old }
         requires d_value { is_gate d ≡ false }
-        ensures { Adds (pushed (drivers_of self.old) d) self.old self.new result }
+        ensures adds { Adds (pushed (drivers_of self.old) d) self.old self.new result }
+        ensures same_words { self.new.work.now ≡ self.old.work.now }
     {
         let pin = self.tally.pins + 1;
         let row = pin as usize;
