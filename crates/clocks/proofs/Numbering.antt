@@ -7,14 +7,15 @@ use native.Mathlib.Numerals.{add-one}
 use native.Mathlib.Omega.{arith}
 use lib.ListN.{length, get_or, take, drop}
 use lib.Seq.{drop-cons, drop-length}
-use borrow.Author.Tests.{eq-eqb, ne_eqb}
-use Rattle.std.specs.Prelude.{◌==◌}
+use Rattle.std.specs.Prelude.{Result, Ok, Err}
 use Rattle.laws.specs.Tests.{or_else}
 use Rattle.laws.specs.Lists.{keep, flat, upto}
 use Rattle.laws.specs.Words.{part}
 use Rattle.laws.proofs.Tests.{by_test, next-refused}
 use Rattle.laws.proofs.Bags.{flat-joined}
 use Rattle.laws.proofs.Words.{part_length, part_at}
+use Rattle.rules.specs.declared.Refusal.{Refusal}
+use Rattle.rules.specs.Answers.{done_of}
 use Rattle.rules.specs.Netlist.{Netlist, Kind, name_of, pins_of}
 use Rattle.rules.specs.Build.{Walk, still, root, gated, strange, far, walk, is_clock, clocks_of}
 use Rattle.rules.specs.Refusals.{walk_number, first_number, clocks_number}
@@ -23,41 +24,19 @@ use Rattle.roles.proofs.Fitting.{laid, entry_inside}
 use Rattle.clocks.specs.declared.Walked.{Walked}
 use Rattle.clocks.specs.Walks.{end_of, told, end_number, number_if, first_by, cell_number, Span}
 
--- ---- which pins are clocks
-module _ (k m : ℕ) where
-  abbrev by : ℕ → Bool
-  by j = is_clock (kind_at j) m
+-- ---- refusals in a row
+-- a step that passes gives number 0; one that refuses gives the refusal of all
+pub done_zero : (k : ℕ) → Ok tt ≡ done_of k → k ≡ 0
+done_zero zero e = refl
+done_zero (suc k) e = cc
 
-  pub clock_dff : k ≡ 8 → (m == 5) ≡ is_clock (kind_at k) m
-  clock_dff e = sym (ap by e)
-
-  pub clock_dffsr : k ≡ 9 → (m == 5) ≡ is_clock (kind_at k) m
-  clock_dffsr e = sym (ap by e)
-
-  pub clock_read : k ≡ 11 → m ≡ 11 → true ≡ is_clock (kind_at k) m
-  clock_read e h = sym (ap by e ∙ rw (eq-eqb m 11 h))
-
-  pub clock_write : k ≡ 11 → (m ≡ 11 → ⊥) → (m == 14) ≡ is_clock (kind_at k) m
-  clock_write e h = sym (ap by e ∙ rw (ne_eqb m 11 h))
-
-no_clock : (k m : ℕ) → (k ≡ 8 → ⊥) → (k ≡ 9 → ⊥) → (k ≡ 11 → ⊥) → false ≡ is_clock (kind_at k) m
-no_clock zero m a b c = refl
-no_clock (suc zero) m a b c = refl
-no_clock (suc (suc zero)) m a b c = refl
-no_clock (suc (suc (suc zero))) m a b c = refl
-no_clock (suc (suc (suc (suc zero)))) m a b c = refl
-no_clock (suc (suc (suc (suc (suc zero))))) m a b c = refl
-no_clock (suc (suc (suc (suc (suc (suc zero)))))) m a b c = refl
-no_clock (suc (suc (suc (suc (suc (suc (suc zero))))))) m a b c = refl
-no_clock (suc (suc (suc (suc (suc (suc (suc (suc zero)))))))) m a b c = absurd (a refl)
-no_clock (suc (suc (suc (suc (suc (suc (suc (suc (suc zero))))))))) m a b c = absurd (b refl)
-no_clock (suc (suc (suc (suc (suc (suc (suc (suc (suc (suc zero)))))))))) m a b c = refl
-no_clock (suc (suc (suc (suc (suc (suc (suc (suc (suc (suc (suc zero))))))))))) m a b c = absurd (c refl)
-no_clock (suc (suc (suc (suc (suc (suc (suc (suc (suc (suc (suc (suc zero)))))))))))) m a b c = refl
-no_clock (suc (suc (suc (suc (suc (suc (suc (suc (suc (suc (suc (suc (suc k))))))))))))) m a b c = refl
-
-pub clock_none : (k m : ℕ) → (k ≡ 8 → ⊥) → (k ≡ 9 → ⊥) → (k ≡ 11 → ⊥) → false ≡ is_clock (kind_at k) m
-clock_none k m a b c = no_clock k m a b c
+module _ (a b : ℕ) (x : Refusal) where
+  pub done_first : Err x ≡ done_of a → Err x ≡ done_of (or_else a b)
+  done_first = by_number a
+    where
+      by_number : (k : ℕ) → Err x ≡ done_of k → Err x ≡ done_of (or_else k b)
+      by_number zero e = cc
+      by_number (suc k) e = e
 
 -- ---- the number of one pin
 end_told : (w : Walk) → end_number (end_of w) ≡ walk_number w
@@ -74,14 +53,14 @@ module _ (kinds starts list pins nets : List ℕ) (k p m : ℕ) (b : Bool) (em :
   tested : is_clock (kind_at k) (name_of n p) ≡ b
   tested = sym (eb ∙ ap (is_clock (kind_at k)) em)
 
-  pub number-none : b ≡ false → 0 ≡ number_if (tables kinds starts list pins nets) (kind_at k) p
+  pub number-none : b ≡ false → Ok tt ≡ done_of (number_if (tables kinds starts list pins nets) (kind_at k) p)
   unfolding number_if
   number-none t = rw (tested ∙ t)
 
-  pub number-walk : b ≡ true → (w : Walked) → w ≡ told (walk (tables kinds starts list pins nets) p) 0 → (r : ℕ) → r ≡ end_number w.end
-      → r ≡ number_if (tables kinds starts list pins nets) (kind_at k) p
+  pub number-walk : b ≡ true → (w : Walked) → w ≡ told (walk (tables kinds starts list pins nets) p) 0 → (r : Result (Unit {0}) Refusal) → r ≡ done_of (end_number w.end)
+      → r ≡ done_of (number_if (tables kinds starts list pins nets) (kind_at k) p)
   unfolding number_if
-  number-walk t w ew r er = rw (tested ∙ t) (er ∙ ap (λ (v : Walked). end_number v.end) ew ∙ end_told (walk n p))
+  number-walk t w ew r er = rw (tested ∙ t) (er ∙ ap (λ (v : Walked). done_of (end_number v.end)) ew ∙ ap done_of (end_told (walk n p)))
 
 -- ---- the first number that is not 0 along a list
 first_kept : (n : Netlist) (k : Kind) (l : List ℕ) → first_by (number_if n k) l ≡ first_number n (keep (λ p. is_clock k (name_of n p)) l)
@@ -119,25 +98,27 @@ module _ (g : ℕ → ℕ) (list : List ℕ) (at n i : ℕ) (h : Span list at n)
   unfolding part
   whole_length = part_length list at n h.fits
 
-  pub trying_ends : n ≤ i → 0 ≡ first_by g (take n (drop at list))
+  pub trying_ends : n ≤ i → Ok tt ≡ done_of (first_by g (take n (drop at list)))
   trying_ends l =
       let e : i ≡ length whole = omega (arith, s.inside, l, whole_length) in
-      sym (first_none g) ∙ ap (first_by g) (sym (drop-length whole) ∙ ap (λ (j : ℕ). drop j whole) (sym e)) ∙ s.rest
+      ap done_of (sym (first_none g) ∙ ap (first_by g) (sym (drop-length whole) ∙ ap (λ (j : ℕ). drop j whole) (sym e)) ∙ s.rest)
 
   module _ (l : i < n) where
     cons : drop i whole ≡ get_or list (at + i) 0 ∷ drop (i + 1) whole
     unfolding part
     cons = drop-cons whole i 0 (omega (arith, l, whole_length)) ∙ ap₂ (λ (x : ℕ) (j : ℕ). x ∷ drop j whole) (part_at list at n i l) (sym (add-one i))
 
-    module _ (r : ℕ) (e : r ≡ g (get_or list (at + i) 0)) where
-      seen : or_else r (first_by g (drop (i + 1) whole)) ≡ first_by g whole
-      seen = ap (λ (v : ℕ). or_else v (first_by g (drop (i + 1) whole))) e ∙ sym (first_more g (get_or list (at + i) 0) (drop (i + 1) whole)) ∙ ap (first_by g) (sym cons) ∙ s.rest
+    seen : or_else (g (get_or list (at + i) 0)) (first_by g (drop (i + 1) whole)) ≡ first_by g whole
+    seen = sym (first_more g (get_or list (at + i) 0) (drop (i + 1) whole)) ∙ ap (first_by g) (sym cons) ∙ s.rest
 
-      pub trying_fails : (r ≡ 0 → ⊥) → r ≡ first_by g (take n (drop at list))
-      trying_fails z = sym (or_first r (first_by g (drop (i + 1) whole)) z) ∙ seen
+    pub trying_fails : (x : Refusal) → Err x ≡ done_of (g (get_or list (at + i) 0)) → Err x ≡ done_of (first_by g (take n (drop at list)))
+    trying_fails x e = done_first (g (get_or list (at + i) 0)) (first_by g (drop (i + 1) whole)) x e ∙ ap done_of seen
 
-      pub trying_goes_on : r ≡ 0 → Trying g list at n (i + 1)
-      trying_goes_on z = record { inside = omega arith; rest = sym (next-refused r (first_by g (drop (i + 1) whole)) z) ∙ seen }
+    pub trying_goes_on : Ok tt ≡ done_of (g (get_or list (at + i) 0)) → Trying g list at n (i + 1)
+    trying_goes_on e = record {
+      inside = omega arith;
+      rest = sym (next-refused (g (get_or list (at + i) 0)) (first_by g (drop (i + 1) whole)) (done_zero (g (get_or list (at + i) 0)) e)) ∙ seen;
+    }
 
 pub span_below : (list : List ℕ) (at n i : ℕ) → Span list at n → i < n → get_or list (at + i) 0 < length list
 span_below list at n i h l = h.below i l
@@ -159,11 +140,11 @@ module _ (kinds starts list pins nets : List ℕ) (c : ℕ) (f : Fits (tables ki
     below = λ i l. entry_inside kinds starts list pins nets f c i lc l;
   }
 
-pub cell_told : (kinds starts list pins nets : List ℕ) (c r : ℕ)
-    → r ≡ first_by (number_if (tables kinds starts list pins nets) (kind_at (get_or kinds c 0))) (take (get_or starts (c + 1) 0 - get_or starts c 0) (drop (get_or starts c 0) list))
-    → r ≡ cell_number (tables kinds starts list pins nets) c
+pub cell_told : (kinds starts list pins nets : List ℕ) (c : ℕ) (r : Result (Unit {0}) Refusal)
+    → r ≡ done_of (first_by (number_if (tables kinds starts list pins nets) (kind_at (get_or kinds c 0))) (take (get_or starts (c + 1) 0 - get_or starts c 0) (drop (get_or starts c 0) list)))
+    → r ≡ done_of (cell_number (tables kinds starts list pins nets) c)
 unfolding cell_number
-cell_told kinds starts list pins nets c r e = e ∙ first_kept (tables kinds starts list pins nets) (kind_at (get_or kinds c 0)) (pins_of (tables kinds starts list pins nets) c)
+cell_told kinds starts list pins nets c r e = e ∙ ap done_of (first_kept (tables kinds starts list pins nets) (kind_at (get_or kinds c 0)) (pins_of (tables kinds starts list pins nets) c))
 
 -- ---- the cells
 first_joined : (n : Netlist) (s t : List ℕ) → first_number n (s ++ t) ≡ or_else (first_number n s) (first_number n t)
@@ -204,16 +185,20 @@ module _ (kinds starts list pins nets : List ℕ) (c : ℕ) (s : Numbered kinds 
   abbrev o : Netlist
   o = tables kinds starts list pins nets
 
-  pub numbered_ends : length kinds ≤ c → 0 ≡ clocks_number (tables kinds starts list pins nets)
-  numbered_ends l = let e : c ≡ length kinds = omega (arith, s.inside, l) in sym s.none ∙ ap (up_to o) e
+  pub numbered_ends : length kinds ≤ c → Ok tt ≡ done_of (clocks_number (tables kinds starts list pins nets))
+  numbered_ends l = let e : c ≡ length kinds = omega (arith, s.inside, l) in ap done_of (sym s.none ∙ ap (up_to o) e)
 
-  module _ (l : c < length kinds) (r : ℕ) (e : r ≡ cell_number (tables kinds starts list pins nets) c) where
-    now_is : up_to o (suc c) ≡ r
+  module _ (l : c < length kinds) where
+    now_is : up_to o (suc c) ≡ cell_number o c
     unfolding cell_number
-    now_is = one_more o c ∙ next-refused (up_to o c) (first_number o (clocks_of o c)) s.none ∙ sym e
+    now_is = one_more o c ∙ next-refused (up_to o c) (first_number o (clocks_of o c)) s.none
 
-    pub numbered_goes_on : r ≡ 0 → Numbered kinds starts list pins nets (c + 1)
-    numbered_goes_on z = record { inside = omega arith; none = ap (up_to o) (add-one c) ∙ now_is ∙ z }
+    pub numbered_goes_on : Ok tt ≡ done_of (cell_number (tables kinds starts list pins nets) c) → Numbered kinds starts list pins nets (c + 1)
+    numbered_goes_on e = record { inside = omega arith; none = ap (up_to o) (add-one c) ∙ now_is ∙ done_zero (cell_number o c) e }
 
-    pub numbered_fails : (r ≡ 0 → ⊥) → r ≡ clocks_number (tables kinds starts list pins nets)
-    numbered_fails z = sym (stays o r (suc c) (length kinds - suc c) (length kinds) (omega (arith, l)) now_is z)
+    pub numbered_fails : (x : Refusal) → Err x ≡ done_of (cell_number (tables kinds starts list pins nets) c) → Err x ≡ done_of (clocks_number (tables kinds starts list pins nets))
+    numbered_fails x e = e ∙ ap done_of (sym (stays o (cell_number o c) (suc c) (length kinds - suc c) (length kinds) (omega (arith, l)) now_is (failed (cell_number o c) e)))
+      where
+        failed : (k : ℕ) → Err x ≡ done_of k → k ≡ 0 → ⊥
+        failed zero e z = cc
+        failed (suc k) e z = absurd (omega (arith, z))

@@ -3,16 +3,11 @@ use Rattle.std.specs.Prelude.{List, [], ◌∷◌, ◌++◌, ℕ, zero, suc, ◌
 use Rattle.laws.specs.Tests.{or_else}
 use Rattle.rules.specs.declared.Edge.{Edge}
 use Rattle.rules.specs.Netlist.{Netlist, Kind, name_of}
-use Rattle.rules.specs.Build.{Role, tied, wire, out_port, in_port, and_out, inv_out, buf_out, gate_out, dff_out, ram_out, nothing, role, Walk, still, root, gated, strange, far, ask_driver, ask_last, walk_by, walk, is_clock, clocks_of}
+use Rattle.rules.specs.Build.{role, Walk, still, root, gated, strange, far, ask_driver, ask_last, walk_by, walk, is_clock, clocks_of}
 use Rattle.rules.specs.Refusals.{walk_number, first_number}
 use Rattle.clocks.specs.declared.WalkEnd.{WalkEnd}
 use Rattle.clocks.specs.declared.WalkEnd.TheVariants.{Still, Root, Strange, Far}
 use Rattle.clocks.specs.declared.Walked.{Walked}
-use Rattle.clocks.specs.declared.PinAsk.{PinAsk}
-use Rattle.clocks.specs.declared.PinAsk.TheVariants.{Constant, Driver, Other}
-use Rattle.clocks.specs.declared.DriverAsk.{DriverAsk}
-use Rattle.clocks.specs.declared.DriverAsk.TheVariants.{Port, Inverted, Same, Gated, TooMany}
-use Rattle.clocks.specs.declared.DriverAsk.TheVariants as ask
 
 -- ---- a walk by value
 abbrev pub end_of : Walk → WalkEnd
@@ -41,45 +36,6 @@ end_number Strange = 8
 end_number Far = 9
 
 -- ---- the steps
-abbrev pub pin_ask : Role → PinAsk
-pin_ask (tied b) = Constant
-pin_ask (wire q) = Driver q
-pin_ask (out_port q) = Other
-pin_ask in_port = Other
-pin_ask (and_out x y z a b) = Other
-pin_ask (inv_out a) = Other
-pin_ask (buf_out a) = Other
-pin_ask (gate_out cp e) = Other
-pin_ask (dff_out c) = Other
-pin_ask (ram_out c b) = Other
-pin_ask nothing = Other
-
--- with so many cells left
-abbrev pub ask_cell : Role → DriverAsk
-ask_cell (tied b) = ask.Other
-ask_cell (wire q) = ask.Other
-ask_cell (out_port q) = ask.Other
-ask_cell in_port = Port
-ask_cell (and_out x y z a b) = ask.Other
-ask_cell (inv_out a) = Inverted a
-ask_cell (buf_out a) = Same a
-ask_cell (gate_out cp e) = Gated cp e
-ask_cell (dff_out c) = ask.Other
-ask_cell (ram_out c b) = ask.Other
-ask_cell nothing = ask.Other
-
-abbrev pub or_too_many : DriverAsk → DriverAsk
-or_too_many Port = Port
-or_too_many (Inverted a) = TooMany
-or_too_many (Same a) = TooMany
-or_too_many (Gated a e) = TooMany
-or_too_many ask.Other = TooMany
-or_too_many TooMany = TooMany
-
-abbrev pub driver_ask : ℕ → Role → DriverAsk
-driver_ask zero r = or_too_many (ask_cell r)
-driver_ask (suc left) r = ask_cell r
-
 abbrev pub plain : WalkEnd → Walked
 plain end = record { end = end; gates = 0; enable = 0 }
 

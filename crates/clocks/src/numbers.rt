@@ -1,115 +1,75 @@
-// The number that the clock walks of a netlist give, in step 1 order (refusals 8 and 9).
+// The clock walks of a netlist, tested in step 1 order (refusals 8 and 9).
 ghost use Rattle.std.specs.Prelude.{◌≡◌, ℕ, ◌+◌, ◌*◌, ◌<◌, ◌≤◌, length, get_or, take, drop};
+ghost use Rattle.rules.specs.Answers.{done_of};
 ghost use Rattle.rules.specs.Build.{is_clock};
 ghost use Rattle.rules.specs.Refusals.{clocks_number};
-ghost use Rattle.roles.specs.Reading.{tables, Fits, kind_at};
+ghost use Rattle.rules.specs.Tables.{netlist_in};
+ghost use Rattle.roles.specs.Reading.{Fits, kind_at};
 ghost use Rattle.clocks.specs.Walks.{Span, number_if, first_by, cell_number};
 
-use crate::{end_number, trace_clock_pin};
+use crate::{test_end, trace_clock_pin};
 use roles::pin_word;
+use rules::{NetlistTables, Refusal};
 
 // Whether a pin of this name is a clock of a cell of this kind: CLK, PORT_R_CLK, PORT_W_CLK.
 pub fn is_clock(kind: u32, name: u32) -> bool
     ensures { result ≡ is_clock (kind_at kind) name }
 {
-    if kind == 8 {
-        return name == 5;
+    match kind {
+        8 | 9 => name == 5,
+        11 => name == 11 || name == 14,
+        _ => false,
     }
-    if kind == 9 {
-        return name == 5;
-    }
-    if kind != 11 {
-        return false;
-    }
-    if name == 11 {
-        return true;
-    }
-    name == 14
 }
 
-// The number of a pin's walk; 0 where it is no clock.
-fn clock_number(
-    kinds: &[u32],
-    starts: &[u32],
-    list: &[u32],
-    pins: &[u32],
-    nets: &[u32],
-    kind: u32,
-    p: u32,
-) -> u32
-    requires fits { Fits (tables kinds.now starts.now list.now pins.now nets.now) }
-    requires p_in_bounds { p < length list.now }
-    ensures { result ≡ number_if (tables kinds.now starts.now list.now pins.now nets.now) (kind_at kind) p }
+// Tests a pin's walk, where it is a clock.
+fn test_clock(n: NetlistTables, kind: u32, p: u32) -> Result<(), Refusal>
+    requires fits { Fits (netlist_in n) }
+    requires p_in_bounds { p < length n.list.now }
+    ensures { result ≡ done_of (number_if (netlist_in n.entry) (kind_at kind) p) }
 {
-    let name = pin_word(pins, p, 1);
+    let name = pin_word(n.pins, p, 1);
     let clock = is_clock(kind, name);
     if !clock {
-        return 0;
+        return Ok(());
     }
-    let walk = trace_clock_pin(kinds, starts, list, pins, nets, p, 0);
-    let end = walk.end;
-    end_number(end)
+    let walk = trace_clock_pin(n, p, 0);
+    test_end(walk.end)
 }
 
-// The number of the first walk that fails among n entries from a place on, of a cell of this kind; 0 where none does.
-fn list_number(
-    kinds: &[u32],
-    starts: &[u32],
-    list: &[u32],
-    pins: &[u32],
-    nets: &[u32],
-    kind: u32,
-    at: usize,
-    n: usize,
-) -> u32
-    requires fits { Fits (tables kinds.now starts.now list.now pins.now nets.now) }
-    requires span { Span list.now at n }
-    ensures { result ≡ first_by (number_if (tables kinds.now starts.now list.now pins.now nets.now) (kind_at kind)) (take n (drop at list.now)) }
+// Tests the walks of so many entries from a place on, of a cell of this kind.
+fn test_list(n: NetlistTables, kind: u32, at: usize, count: usize) -> Result<(), Refusal>
+    requires fits { Fits (netlist_in n) }
+    requires span { Span n.list.now at count }
+    ensures { result ≡ done_of (first_by (number_if (netlist_in n.entry) (kind_at kind)) (take count (drop at n.entry.list.now))) }
 {
-    let mut i = 0;
-    while i < n {
-        let p = list[at + i];
-        let number = clock_number(kinds, starts, list, pins, nets, kind, p);
-        if number != 0 {
-            return number;
-        }
-        i += 1;
+    for i in 0..count {
+        let p = n.list[at + i];
+        test_clock(n, kind, p)?;
     }
-    0
+    Ok(())
 }
 
-// The number of the first walk of a cell's clocks, in list order, that fails.
-fn cell_number(
-    kinds: &[u32],
-    starts: &[u32],
-    list: &[u32],
-    pins: &[u32],
-    nets: &[u32],
-    cell: usize,
-) -> u32
-    requires fits { Fits (tables kinds.now starts.now list.now pins.now nets.now) }
-    requires cell_in_bounds { cell < length kinds.now }
-    ensures { result ≡ cell_number (tables kinds.now starts.now list.now pins.now nets.now) cell }
+// Tests the walks of a cell's clocks, in list order.
+fn test_cell(n: NetlistTables, cell: usize) -> Result<(), Refusal>
+    requires fits { Fits (netlist_in n) }
+    requires cell_in_bounds { cell < length n.kinds.now }
+    ensures { result ≡ done_of (cell_number (netlist_in n.entry) cell) }
 {
-    let kind = kinds[cell];
-    let at = starts[cell] as usize;
-    let end = starts[cell + 1] as usize;
-    let n = end - at;
-    list_number(kinds, starts, list, pins, nets, kind, at, n)
+    let kind = n.kinds[cell];
+    let at = n.starts[cell] as usize;
+    let end = n.starts[cell + 1] as usize;
+    let count = end - at;
+    test_list(n, kind, at, count)
 }
 
-// The number of the first walk that fails, cells upward; 0 where none does.
-pub fn clocks_number(kinds: &[u32], starts: &[u32], list: &[u32], pins: &[u32], nets: &[u32]) -> u32
-    requires { Fits (tables kinds.now starts.now list.now pins.now nets.now) }
-    ensures { result ≡ clocks_number (tables kinds.now starts.now list.now pins.now nets.now) }
+// Tests the walks of all clocks, cells upward; the first that fails gives the refusal.
+pub fn test_clocks(n: NetlistTables) -> Result<(), Refusal>
+    requires { Fits (netlist_in n) }
+    ensures { result ≡ done_of (clocks_number (netlist_in n.entry)) }
 {
-    let mut cell = 0;
-    while cell < kinds.len() {
-        let number = cell_number(kinds, starts, list, pins, nets, cell);
-        if number != 0 {
-            return number;
-        }
-        cell += 1;
+    for cell in 0..n.kinds.len() {
+        test_cell(n, cell)?;
     }
-    0
+    Ok(())
 }

@@ -83,7 +83,7 @@ fn pin_flag(
     if !clock {
         return Some(t);
     }
-    let walk = trace_clock_pin(n.kinds, n.starts, n.list, n.pins, n.nets, p, 0);
+    let walk = trace_clock_pin(n, p, 0);
     end_flag(drivers, work, n.list.len(), at, t, walk.end)
 }
 

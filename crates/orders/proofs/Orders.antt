@@ -1,6 +1,6 @@
 -- The visits of all pins, in the code's shape, and what they say of loops.
-use mathlib.Core.Path.{◌≡◌, refl, sym, ◌∙◌, ap, subst}
-use mathlib.Core.Bool.{Bool, true, false, not}
+use mathlib.Core.Path.{◌≡◌, sym, ◌∙◌, ap, subst}
+use mathlib.Core.Bool.{not}
 use mathlib.Core.List.{List, []}
 use Prim.Native.Nat.{ℕ, zero, suc, ◌+◌, ◌*◌, ◌<◌, ◌≤◌}
 use native.Mathlib.Numerals.{add-one}
@@ -11,7 +11,7 @@ use Rattle.std.specs.Prelude.{◌==◌}
 use Rattle.laws.specs.Tests.{◌<?◌}
 use Rattle.laws.specs.Lists.{count, keep, over, upto}
 use Rattle.laws.specs.Search.{Event, entered, explore}
-use Rattle.laws.proofs.Tests.{by_test, true≢false}
+use Rattle.laws.proofs.Tests.{by_test}
 use Rattle.laws.proofs.Bags.{count-keep}
 use Rattle.laws.proofs.Counting.{length_parts}
 use Rattle.laws.proofs.Folds.{over_snoc, over-same}
@@ -25,9 +25,8 @@ use Rattle.rules.specs.Refusals.{Loop, loop_free}
 use Rattle.rules.proofs.Roles.{next_closed}
 use Rattle.rules.proofs.Accepts.{loop_iff, rank_of, rank_low, visits_fall}
 use Rattle.roles.specs.Reading.{tables, Fits}
-use Rattle.orders.specs.State.{goes_to, events_of, Going, Kept, Visited, Fresh, Ordered}
-use Rattle.orders.specs.State.Visited.{visits, stops}
-use Rattle.orders.specs.State.Ordered.{ordered, looped}
+use Rattle.rules.specs.declared.Refusal.{Refusal}
+use Rattle.orders.specs.State.{goes_to, events_of, Going, Kept, LoopMet, Done, Fresh, InOrder, Looped}
 use Rattle.orders.proofs.Turns.{events-none}
 use Rattle.orders.proofs.Runs.{kept-none, kept_on}
 
@@ -67,18 +66,17 @@ through_begins nx m w f = record {
     none : events_of w (2 * m) 0 ≡ []
     none = events-none w (2 * m)
 
-module _ (nx : ℕ → List ℕ) (m : ℕ) (v w : List ℕ) (i k : ℕ) (s : GoingThrough nx m v w i k) (w' : List ℕ) (k' : ℕ) (b : Bool) where
-  pub through_goes_on : Visited nx m w k i w' k' b → i < m → b ≡ false → GoingThrough nx m v w' (i + 1) k'
-  through_goes_on (stops e o lo c kp) l z = true≢false b e z
-  through_goes_on (visits e g h kp) l z = record {
-    inside = omega arith;
-    going = g;
-    events_so_far = h ∙ ap (λ (t : List Event). explore_at nx m t i) s.events_so_far ∙ sym (over_snoc (explore_at nx m) [] (upto i) i) ∙ ap (λ (j : ℕ). over (explore_at nx m) [] (upto j)) (sym (add-one i));
-    each = λ u a. by_test (u <? i)
-        (λ t. omega (arith, s.each u (ltb-true u i t), grows_ins nx (suc m) (events_of w (2 * m) k) i u, ap (ins u) h))
-        (λ f. let q : i ≡ u = omega (arith, a, ltb-false u i f) in subst (λ (x : ℕ). 0 < ins x (events_of w' (2 * m) k')) q (rw h (explore_has nx m (events_of w (2 * m) k) i)));
-    kept = kept_on m v w w' s.kept kp;
-  }
+pub through_goes_on : (nx : ℕ → List ℕ) (m : ℕ) (v w : List ℕ) (i k : ℕ) → GoingThrough nx m v w i k → (w' : List ℕ) (k' : ℕ)
+    → Done nx m (explore_at nx m (events_of w (2 * m) k) i) w w' k' → i < m → GoingThrough nx m v w' (i + 1) k'
+through_goes_on nx m v w i k s w' k' d l = record {
+  inside = omega arith;
+  going = d.going;
+  events_so_far = d.written ∙ ap (λ (t : List Event). explore_at nx m t i) s.events_so_far ∙ sym (over_snoc (explore_at nx m) [] (upto i) i) ∙ ap (λ (j : ℕ). over (explore_at nx m) [] (upto j)) (sym (add-one i));
+  each = λ u a. by_test (u <? i)
+      (λ t. omega (arith, s.each u (ltb-true u i t), grows_ins nx (suc m) (events_of w (2 * m) k) i u, ap (ins u) d.written))
+      (λ f. let q : i ≡ u = omega (arith, a, ltb-false u i f) in subst (λ (x : ℕ). 0 < ins x (events_of w' (2 * m) k')) q (rw d.written (explore_has nx m (events_of w (2 * m) k) i)));
+  kept = kept_on m v w w' s.kept d.kept;
+}
 
 -- ---- what it says of the netlist
 module _ (kinds starts list pins nets v w : List ℕ) (i k : ℕ) (f : Fits (tables kinds starts list pins nets))
@@ -92,12 +90,13 @@ module _ (kinds starts list pins nets v w : List ℕ) (i k : ℕ) (f : Fits (tab
   closed : (u o : ℕ) → u < m → 0 < count o (next n u) → o < m
   closed u o h c = next_closed n f.accepted u o h c
 
-  pub through_finds : (w' : List ℕ) (k' : ℕ) (b : Bool) → Visited (goes_to (tables kinds starts list pins nets)) (length list) w k i w' k' b → b ≡ true
-      → Ordered (tables kinds starts list pins nets) v w' false
+  pub through_finds : (w' : List ℕ) (e : Refusal) → LoopMet (goes_to (tables kinds starts list pins nets)) (length list) w w' e → Looped (tables kinds starts list pins nets) v w' e
   unfolding goes_to
-  through_finds w' k' b (visits e g h kp) z = true≢false b z e
-  through_finds w' k' b (stops e o lo c kp) z = looped refl
-      (by_test (loop_free n) (λ t. absurd (loop_free_lem (next n) m closed t o lo c)) (λ q. q)) (kept_on m v w w' s.kept kp)
+  through_finds w' e o = record {
+    refusal = o.refusal;
+    looped = by_test (loop_free n) (λ t. absurd (loop_free_lem (next n) m closed t o.pin o.inside o.chain)) (λ q. q);
+    kept = kept_on m v w w' s.kept o.kept;
+  }
 
   module _ (l : length list ≤ i) where
     all_in_lem : (u : ℕ) → u < m → 0 < ins u (events_of w (2 * m) k)
@@ -124,6 +123,10 @@ module _ (kinds starts list pins nets v w : List ℕ) (i k : ℕ) (f : Fits (tab
         let q : i ≡ m = omega (arith, s.inside, l) in
         s.events_so_far ∙ ap (λ (j : ℕ). over (explore_at (next n) m) [] (upto j)) q ∙ order_is
 
-    pub through_ends : Ordered (tables kinds starts list pins nets) v w true
-    through_ends = ordered refl ((loop_iff n f.accepted).1 free) (sym (ap (events_of w (2 * m)) count_is) ∙ events_are)
-        (λ q h. omega (arith, s.going.marks q h, all_in_lem q h, flat.balanced q, open_once (goes_to n) [] (events_of w (2 * m) k) flat q)) s.kept
+    pub through_ends : InOrder (tables kinds starts list pins nets) v w
+    through_ends = record {
+      free = (loop_iff n f.accepted).1 free;
+      written = sym (ap (events_of w (2 * m)) count_is) ∙ events_are;
+      marks = λ q h. omega (arith, s.going.marks q h, all_in_lem q h, flat.balanced q, open_once (goes_to n) [] (events_of w (2 * m) k) flat q);
+      kept = s.kept;
+    }

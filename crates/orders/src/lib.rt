@@ -3,262 +3,129 @@
 // twice the pin where it is entered, and 1 more where it is left. Words from 4 * m on are the caller's.
 #![tactic(auto)]
 
-ghost use Rattle.std.specs.Prelude.{◌≡◌, ℕ, ◌+◌, ◌*◌, ◌<◌, ◌≤◌, length, get_or};
-ghost use Rattle.roles.specs.Reading.{tables, Fits, entry_of};
-ghost use Rattle.roles.specs.declared.Entry.TheVariants.{Pin};
-ghost use Rattle.orders.specs.State.{goes_to, probe_of, Looked, Going, PinLeft, PinEntered, Step, Finished, Visited, Fresh, Ordered};
+ghost use Rattle.std.specs.Prelude.{◌≡◌, ℕ, ◌+◌, ◌*◌, ◌<◌, ◌≤◌, length};
+ghost use Rattle.rules.specs.Tables.{netlist_in};
+ghost use Rattle.roles.specs.Reading.{Fits};
+ghost use Rattle.orders.specs.State.{goes_to, Looked, Going, PinLeft, PinEntered, Step, Finished, Visited, Fresh, Ordered};
 
-use roles::{Entry, visit_at};
+use roles::visit_at;
+use rules::{NetlistTables, Refusal};
 
-// What is found of a pin's visits. Tag 0: all were left. 1: this pin is not entered yet. 2: this one is on the stack.
-// 3: this one was left, look further.
-#[derive(Drop)]
-struct Seen {
-    tag: u32,
-    pin: u32,
+// A place in the visits: the stack's height, and how many events are written.
+#[derive(Clone, Copy)]
+struct Place {
+    height: usize,
+    count: usize,
 }
 
-// A place in the visits: the stack's height, how many events are written, and whether a loop was met.
-#[derive(Drop)]
-pub struct Place {
-    pub height: usize,
-    pub count: usize,
-    pub looped: bool,
-}
-
-// What a pin's mark says.
-fn marked(work: &[u32], q: u32) -> Seen
-    requires { q < length work.now }
-    ensures { result ≡ probe_of work.now (Pin q) }
+// The first place where the visit of a pin goes that was not entered, or none where all were left. One on the stack is a
+// loop.
+fn look(n: NetlistTables, work: &[u32], p: u32) -> Result<Option<u32>, Refusal>
+    requires fits { Fits (netlist_in n) }
+    requires p_in_bounds { p < length n.list.now }
+    requires list_in_bounds { length n.list.now ≤ length work.now }
+    ensures { Looked (goes_to (netlist_in n.entry) p) work.now result }
 {
-    let mark = work[q as usize];
-    if mark == 0 {
-        return Seen { tag: 1, pin: q };
-    }
-    if mark == 1 {
-        return Seen { tag: 2, pin: q };
-    }
-    Seen { tag: 3, pin: q }
-}
-
-// The same of the place at k where the visit of a pin goes.
-fn probe(
-    kinds: &[u32],
-    starts: &[u32],
-    list: &[u32],
-    pins: &[u32],
-    nets: &[u32],
-    work: &[u32],
-    p: u32,
-    k: usize,
-) -> Seen
-    requires fits { Fits (tables kinds.now starts.now list.now pins.now nets.now) }
-    requires p_in_bounds { p < length list.now }
-    requires list_in_bounds { length list.now ≤ length work.now }
-    ensures { result ≡ probe_of work.now (entry_of (goes_to (tables kinds.now starts.now list.now pins.now nets.now) p) k) }
-{
-    let entry = visit_at(kinds, starts, list, pins, nets, p, k);
-    match entry {
-        Entry::Pin(q) => marked(work, q),
-        Entry::Absent => Seen { tag: 0, pin: 0 },
-    }
-}
-
-// The first place where the visit of a pin goes that was not left.
-fn look(
-    kinds: &[u32],
-    starts: &[u32],
-    list: &[u32],
-    pins: &[u32],
-    nets: &[u32],
-    work: &[u32],
-    p: u32,
-) -> Seen
-    requires fits { Fits (tables kinds.now starts.now list.now pins.now nets.now) }
-    requires p_in_bounds { p < length list.now }
-    requires list_in_bounds { length list.now ≤ length work.now }
-    ensures { Looked (goes_to (tables kinds.now starts.now list.now pins.now nets.now) p) work.now result.tag result.pin }
-{
-    let first = probe(kinds, starts, list, pins, nets, work, p, 0);
-    let mut tag = first.tag;
-    let mut pin = first.pin;
     let mut k = 0;
-    while tag == 3 {
-        k += 1;
-        let more = probe(kinds, starts, list, pins, nets, work, p, k);
-        tag = more.tag;
-        pin = more.pin;
+    while let Some(q) = visit_at(n, p, k) {
+        match work[q as usize] {
+            0 => return Ok(Some(q)),
+            1 => return Err(Refusal::Loop),
+            _ => k += 1,
+        }
     }
-    Seen { tag: tag, pin: pin }
+    Ok(None)
 }
 
 // The pin p on the top of the stack is left and taken off.
-fn leave_pin(work: &mut [u32], m: usize, p: u32, h: usize, k: usize) -> Place
+fn leave_pin(work: &mut [u32], m: usize, p: u32, at: Place) -> Place
     requires p_lt_m { p < m }
     requires m_bound { m ≤ 1048576 }
-    requires h_nonzero { 0 < h }
-    requires k_in_bounds { 2 * m + k < length work.old }
-    ensures { PinLeft m p h k work.old work.new result.height result.count result.looped }
+    requires height_nonzero { 0 < at.height }
+    requires count_in_bounds { 2 * m + at.count < length work.old }
+    ensures { PinLeft m p at work.old work.new result }
 {
-    let last = 2 * m + k;
-    let more = k + 1;
-    let lower = h - 1;
     let left = 2 * p + 1;
     work[p as usize] = 2;
-    work[last] = left;
+    work[2 * m + at.count] = left;
     Place {
-        height: lower,
-        count: more,
-        looped: false,
+        height: at.height - 1,
+        count: at.count + 1,
     }
 }
 
 // The pin q is entered and goes on the stack.
-fn enter_pin(work: &mut [u32], m: usize, q: u32, h: usize, k: usize) -> Place
+fn enter_pin(work: &mut [u32], m: usize, q: u32, at: Place) -> Place
     requires q_lt_m { q < m }
     requires m_bound { m ≤ 1048576 }
-    requires h_lt_m { h < m }
-    requires k_in_bounds { 2 * m + k < length work.old }
-    ensures { PinEntered m q h k work.old work.new result.height result.count result.looped }
+    requires height_lt_m { at.height < m }
+    requires count_in_bounds { 2 * m + at.count < length work.old }
+    ensures { PinEntered m q at work.old work.new result }
 {
-    let last = 2 * m + k;
-    let more = k + 1;
-    let higher = h + 1;
-    let above = m + h;
     let entered = 2 * q;
     work[q as usize] = 1;
-    work[above] = q;
-    work[last] = entered;
+    work[m + at.height] = q;
+    work[2 * m + at.count] = entered;
     Place {
-        height: higher,
-        count: more,
-        looped: false,
+        height: at.height + 1,
+        count: at.count + 1,
     }
 }
 
 // One turn: the top's first visit that was not entered goes on the stack, a loop where it is there already; where all were
 // left, the top is left and taken off.
-fn turn(
-    kinds: &[u32],
-    starts: &[u32],
-    list: &[u32],
-    pins: &[u32],
-    nets: &[u32],
-    work: &mut [u32],
-    h: usize,
-    k: usize,
-) -> Place
-    requires fits { Fits (tables kinds.now starts.now list.now pins.now nets.now) }
-    requires going { Going (goes_to (tables kinds.now starts.now list.now pins.now nets.now)) (length list.now) work.old h k }
-    requires h_nonzero { 0 < h }
-    ensures { Step (goes_to (tables kinds.now starts.now list.now pins.now nets.now)) (length list.now) work.old h k work.new result.height result.count result.looped }
+fn turn(n: NetlistTables, work: &mut [u32], at: Place) -> Result<Place, Refusal>
+    requires fits { Fits (netlist_in n) }
+    requires going { Going (goes_to (netlist_in n)) (length n.list.now) work.old at.height at.count }
+    requires height_nonzero { 0 < at.height }
+    ensures { Step (goes_to (netlist_in n.entry)) (length n.entry.list.now) work.old at work.new result }
 {
-    let m = list.len();
-    let top = m + h - 1;
-    let p = work[top];
-    let at = look(kinds, starts, list, pins, nets, work, p);
-    if at.tag == 2 {
-        return Place {
-            height: h,
-            count: k,
-            looped: true,
-        };
-    }
-    if at.tag == 0 {
-        return leave_pin(work, m, p, h, k);
-    }
-    enter_pin(work, m, at.pin, h, k)
-}
-
-// The turns until the stack is empty, or a loop is met.
-fn finish(
-    kinds: &[u32],
-    starts: &[u32],
-    list: &[u32],
-    pins: &[u32],
-    nets: &[u32],
-    work: &mut [u32],
-    height: usize,
-    count: usize,
-) -> Place
-    requires fits { Fits (tables kinds.now starts.now list.now pins.now nets.now) }
-    requires going { Going (goes_to (tables kinds.now starts.now list.now pins.now nets.now)) (length list.now) work.old height count }
-    ensures { Finished (goes_to (tables kinds.now starts.now list.now pins.now nets.now)) (length list.now) work.old height count work.new result.count result.looped }
-{
-    let mut h = height;
-    let mut k = count;
-    while 0 < h {
-        let at = turn(kinds, starts, list, pins, nets, work, h, k);
-        if at.looped {
-            return at;
-        }
-        h = at.height;
-        k = at.count;
-    }
-    Place {
-        height: 0,
-        count: k,
-        looped: false,
+    let m = n.list.len();
+    let p = work[m + at.height - 1];
+    let found = look(n, work, p)?;
+    match found {
+        Some(q) => Ok(enter_pin(work, m, q, at)),
+        None => Ok(leave_pin(work, m, p, at)),
     }
 }
 
-// A visit of the pin root, where count events are written.
-fn visit(
-    kinds: &[u32],
-    starts: &[u32],
-    list: &[u32],
-    pins: &[u32],
-    nets: &[u32],
-    work: &mut [u32],
-    count: usize,
-    root: u32,
-) -> Place
-    requires fits { Fits (tables kinds.now starts.now list.now pins.now nets.now) }
-    requires going { Going (goes_to (tables kinds.now starts.now list.now pins.now nets.now)) (length list.now) work.old 0 count }
-    requires root_in_bounds { root < length list.now }
-    ensures { Visited (goes_to (tables kinds.now starts.now list.now pins.now nets.now)) (length list.now) work.old count root work.new result.count result.looped }
+// The turns until the stack is empty: how many events are then written. Err where a loop is met.
+fn finish(n: NetlistTables, work: &mut [u32], start: Place) -> Result<usize, Refusal>
+    requires fits { Fits (netlist_in n) }
+    requires going { Going (goes_to (netlist_in n)) (length n.list.now) work.old start.height start.count }
+    ensures { Finished (goes_to (netlist_in n.entry)) (length n.entry.list.now) work.old start.height start.count work.new result }
 {
-    let q = root as usize;
-    let mark = work[q];
+    let mut at = start;
+    while 0 < at.height {
+        at = turn(n, work, at)?;
+    }
+    Ok(at.count)
+}
+
+// A visit of the pin root, where count events are written: how many then are.
+fn visit(n: NetlistTables, work: &mut [u32], count: usize, root: u32) -> Result<usize, Refusal>
+    requires fits { Fits (netlist_in n) }
+    requires going { Going (goes_to (netlist_in n)) (length n.list.now) work.old 0 count }
+    requires root_in_bounds { root < length n.list.now }
+    ensures { Visited (goes_to (netlist_in n.entry)) (length n.entry.list.now) work.old count root work.new result }
+{
+    let mark = work[root as usize];
     if mark != 0 {
-        return Place {
-            height: 0,
-            count: count,
-            looped: false,
-        };
+        return Ok(count);
     }
-    let m = list.len();
-    let last = 2 * m + count;
-    let more = count + 1;
-    let entered = 2 * root;
-    work[q] = 1;
-    work[m] = root;
-    work[last] = entered;
-    finish(kinds, starts, list, pins, nets, work, 1, more)
+    let at = enter_pin(work, n.list.len(), root, Place { height: 0, count });
+    finish(n, work, at)
 }
 
-// The visits of all pins upward: whether there is no loop. Then the first 2 * m words from 2 * m on are the events.
-pub fn visit_order(
-    kinds: &[u32],
-    starts: &[u32],
-    list: &[u32],
-    pins: &[u32],
-    nets: &[u32],
-    work: &mut [u32],
-) -> bool
-    requires fits { Fits (tables kinds.now starts.now list.now pins.now nets.now) }
-    requires fresh { Fresh (length list.now) work.old }
-    ensures { Ordered (tables kinds.now starts.now list.now pins.now nets.now) work.old work.new result }
+// The visits of all pins upward, where there is no loop. Then the first 2 * m words from 2 * m on are the events.
+pub fn visit_order(n: NetlistTables, work: &mut [u32]) -> Result<(), Refusal>
+    requires fits { Fits (netlist_in n) }
+    requires fresh { Fresh (length n.list.now) work.old }
+    ensures { Ordered (netlist_in n.entry) work.old work.new result }
 {
-    let mut i = 0;
     let mut k = 0;
-    while i < list.len() {
-        let at = visit(kinds, starts, list, pins, nets, work, k, i as u32);
-        if at.looped {
-            return false;
-        }
-        k = at.count;
-        i += 1;
+    for i in 0..n.list.len() {
+        k = visit(n, work, k, i as u32)?;
     }
-    true
+    Ok(())
 }

@@ -1,13 +1,13 @@
 use Rattle.orders.specs.State.{goes_to}
-use Rattle.roles.specs.Reading.{tables}
+use Rattle.rules.specs.Tables.{netlist_in}
 use lib.ListN.{length}
 use mathlib.Core.Path.{◌≡◌}
 use Prim.Native.Nat.{◌-◌, ◌*◌}
 use Rattle.orders.proofs.Runs.{Running}
 use Rattle.orders.proofs.finish.Given as goal
 
-abbrev pub invariant-loop-h : goal.invariant-loop-h
-invariant-loop-h l = Running (goes_to (tables l.kinds l.starts l.list l.pins l.nets)) (length l.list) l.initial.work l.height l.count l.work l.h l.k × (length l.work ≡ length l.initial.work)
+abbrev pub invariant-loop-at : goal.invariant-loop-at
+invariant-loop-at l = Running (goes_to (netlist_in l.n)) (length l.n.list.now) l.initial.work l.initial.at.height l.initial.at.count l.work l.at.height l.at.count × (length l.work ≡ length l.initial.work)
 
-abbrev pub decreases-loop-h : goal.decreases-loop-h
-decreases-loop-h l = 2 * length l.list - l.k
+abbrev pub decreases-loop-at : goal.decreases-loop-at
+decreases-loop-at l = 2 * length l.n.list.now - l.at.count

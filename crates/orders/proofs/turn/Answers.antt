@@ -1,21 +1,26 @@
-use Rattle.orders.proofs.Steps.{top_inside, marks_long, few, last_inside, step_loops, pin_inside, room_left, step_left, step_entered}
-use borrow.Author.Rules.{rules}
+use Rattle.std.proofs.lemmas.Result.{err_from_is_err_and}
+use Rattle.orders.proofs.Steps.{top_inside, pin_inside, room_left, step_loops, step_left, step_entered}
 use Rattle.orders.proofs.turn.Goals as goal
 
-pub look-at-requires : goal.look-at-requires
-look-at-requires c = record { fits = search rules; p_in_bounds = search top_inside; list_in_bounds = search marks_long }
+pub look-requires-clause-p_in_bounds : goal.look-requires-clause-p_in_bounds
+look-requires-clause-p_in_bounds c = search top_inside
 
-pub returns-then-at-eq2 : goal.returns-then-at-eq2
-returns-then-at-eq2 c = search step_loops
+pub returns-in_err-found : goal.returns-in_err-found
+returns-in_err-found c =
+    let p = err_from_is_err_and c.from_residual.result c.from_residual.ensures.1 in
+    rw (p.1, p.2) (search (step_loops, c.in_err-found.ensures))
 
-pub leave_pin-requires : goal.leave_pin-requires
-leave_pin-requires c = record { p_lt_m = search top_inside; m_bound = search few; h_nonzero = search rules; k_in_bounds = search last_inside }
+pub enter_pin-requires-clause-q_lt_m : goal.enter_pin-requires-clause-q_lt_m
+enter_pin-requires-clause-q_lt_m c = let s = rw c.in-Some.is at c.in_ok-found.ensures in search (pin_inside, s)
 
-pub returns-then-at-eq0 : goal.returns-then-at-eq0
-returns-then-at-eq0 c = search step_left
+pub enter_pin-requires-clause-height_lt_m : goal.enter_pin-requires-clause-height_lt_m
+enter_pin-requires-clause-height_lt_m c = let s = rw c.in-Some.is at c.in_ok-found.ensures in search (room_left, s)
 
-pub enter_pin-requires : goal.enter_pin-requires
-enter_pin-requires c = record { q_lt_m = search pin_inside; m_bound = search few; h_lt_m = search room_left; k_in_bounds = search last_inside }
+pub leave_pin-requires-clause-p_lt_m : goal.leave_pin-requires-clause-p_lt_m
+leave_pin-requires-clause-p_lt_m c = search top_inside
 
-pub returns : goal.returns
-returns c = search step_entered
+pub returns-in-Some : goal.returns-in-Some
+returns-in-Some c = let s = rw c.in-Some.is at c.in_ok-found.ensures in search (step_entered, s)
+
+pub returns-in-None : goal.returns-in-None
+returns-in-None c = let s = rw c.in-None.is at c.in_ok-found.ensures in search (step_left, s)
