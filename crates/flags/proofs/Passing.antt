@@ -85,10 +85,6 @@ module _ (m : ℕ) (ds : List Driver) (d d₁ : Draft) where
   }
 
   module _ (a : AddsFlags m ds d d₁ (Some tt)) where
-    adds_state : IsFlagging m d₁
-    adds_state = subst (λ (x : ℕ). Flagging m x d₁.work.now d₁.drivers.now d₁.tally) (sym a.loans.place)
-        (kept m d.at ds d.work.now d.drivers.now d.tally d₁.work.now d₁.drivers.now d₁.tally a.flagged).state
-
     adds_then : (f : List Driver → List Driver) (d₂ : Draft) (r : Option (Unit {0})) → AddsFlags m (f (drivers_of d₁)) d₁ d₂ r → AddsFlags m (f ds) d d₂ r
     adds_then f d₂ r b = record {
       loans = loans_trans a.loans b.loans;
@@ -164,9 +160,6 @@ passing_begins : (h : List Driver → ℕ → List Driver) (m : ℕ) (l : List �
 passing_begins h m l d f = record { inside = omega arith; so_far = adds_none m d f }
 
 module _ (h : List Driver → ℕ → List Driver) (m : ℕ) (l : List ℕ) (d₀ d : Draft) (i : ℕ) (p : Passing h m l d₀ d i) where
-  passing_state : IsFlagging m d
-  passing_state = adds_state m (over h (drivers_of d₀) (take i l)) d₀ d p.so_far
-
   passing_ends : length l ≤ i → AddsFlags m (over h (drivers_of d₀) l) d₀ d (Some tt)
   passing_ends e = subst (λ (k : List ℕ). AddsFlags m (over h (drivers_of d₀) k) d₀ d (Some tt)) (take_all i l e) p.so_far
 
@@ -202,9 +195,6 @@ module _ (kinds starts list pins nets : List ℕ) (k a n : ℕ) where
     whole : length (take n (drop a list)) ≡ n
     unfolding part
     whole = part_length list a n sp.fits
-
-    pub list_state : IsFlagging (length list) d
-    list_state = passing_state h (length list) (take n (drop a list)) d₀ d i p
 
     pub list_ends : n ≤ i → AddsFlags (length list) (over (flag_if (tables kinds starts list pins nets) (kind_at k)) (drivers_of d₀) (take n (drop a list))) d₀ d (Some tt)
     list_ends l = passing_ends h (length list) (take n (drop a list)) d₀ d i p (omega (arith, l, whole))
@@ -269,9 +259,6 @@ module _ (kinds starts list pins nets : List ℕ) where
   module _ (d₀ : Draft) (b : IsBlank (length list) d₀) (d : Draft) (c : ℕ) (p : PassingCells d₀ d c) where
     abbrev g : List Driver → ℕ → List Driver
     g = flags_of (tables kinds starts list pins nets)
-
-    pub cells_state : IsFlagging (length list) d
-    cells_state = passing_state g (length list) (upto (length kinds)) d₀ d c p
 
     final : over g (drivers_of d₀) (upto (length kinds)) ≡ step1 (tables kinds starts list pins nets)
     final = ap (λ (ds : List Driver). over g ds (upto (length kinds))) b.alone ∙ all_flagged (tables kinds starts list pins nets)
