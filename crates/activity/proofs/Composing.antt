@@ -19,8 +19,8 @@ use Rattle.rules.proofs.Tables.{clash}
 use Rattle.builds.proofs.Growing.{Keeps, keeps_trans}
 use Rattle.roles.specs.Reading.{Fits}
 use Rattle.roles.proofs.Fitting.{laid}
-use Rattle.drafts.specs.declared.Added.{Added}
-use Rattle.drafts.specs.Table.{Table, drafted, Extends, made}
+use Rattle.drafts.specs.declared.Draft.{Draft}
+use Rattle.drafts.specs.Table.{Added, Table, drafted, Extends, made, added, SameLoans, Adds}
 use Rattle.drafts.specs.Table as table
 use Rattle.drafts.specs.Layout.{start_of}
 use Rattle.drafts.proofs.Steps.{below_refl, below_trans, ends_refl, ends_trans, Extended}
@@ -29,6 +29,11 @@ use Rattle.activity.specs.Traced.{Ground, Going, start_at}
 -- nothing is made
 pub nothing_made : (at : ℕ) (w ws : List ℕ) (t : Tally) (l : Literal) → Table at w ws t → Extends at (start_at (drafted ws t) l.word) w ws t w ws (Some (record { lit = l; tally = t }))
 nothing_made at w ws t l h = made (record { lit = l; tally = t }) refl refl h refl (ends_refl t) (below_refl at w) refl
+
+-- a step of a draft, by the place of one that it goes on from
+pub moved : (m : Made) (d₀ d d' : Draft) (r : Option Literal) → SameLoans d₀ d → Adds m d d' r
+    → Extends d₀.at m d.work.now d.drivers.now d.tally d'.work.now d'.drivers.now (added r d'.tally)
+moved m d₀ d d' r l s = subst (λ (x : ℕ). Extends x m d.work.now d.drivers.now d.tally d'.work.now d'.drivers.now (added r d'.tally)) l.place s.extends
 
 -- ---- what a step leaves
 module _ (at : ℕ) (m : Made) (w ws : List ℕ) (t : Tally) (w₁ ws₁ : List ℕ) where
