@@ -6,7 +6,9 @@ use native.Mathlib.Omega.{arith}
 use lib.ListN.{length, get_or, set, length-set}
 use lib.Seq.{get_or-set_other}
 use Rattle.std.specs.Prelude.{Some, None}
+use Rattle.std.specs.Borrow.{MutBor}
 use Rattle.rules.specs.declared.Edge.{Edge}
+use Rattle.rules.specs.declared.Literal.{Literal}
 use Rattle.rules.specs.declared.Driver.{Driver}
 use Rattle.rules.specs.declared.Driver.TheVariants.{Flag}
 use Rattle.rules.specs.declared.Tally.{Tally}
@@ -16,12 +18,13 @@ use Rattle.rules.specs.Build.{is_flag, flag_for}
 use Rattle.rules.proofs.Tables.{clash}
 use Rattle.drivers.proofs.Rows.{drivers_long_lem, driver_old, one-longer}
 use Rattle.builds.proofs.Ands.{flag_self, flag_only, known_same}
-use Rattle.drafts.specs.declared.Added.{Added}
-use Rattle.drafts.specs.Table.{drafted, pushed, Extends}
+use Rattle.drafts.specs.declared.Draft.{Draft}
+use Rattle.drafts.specs.Table.{Added, drafted, pushed, Extends, drivers_of, added, SameLoans, Adds}
 use Rattle.drafts.specs.Table as table
 use Rattle.drafts.specs.Layout.{flag_word, Flags}
 use Rattle.drafts.proofs.Steps.{ends_refl, table_store, extended}
-use Rattle.flags.specs.Flagging.{Flagging, FlagsOnly, Flagged, made, full}
+use Rattle.drafts.proofs.Drafting.{loans_refl}
+use Rattle.flags.specs.Flagging.{Flagging, FlagsOnly, Flagged, made, full, IsFlagging, AddsFlags}
 use Rattle.flags.proofs.Words.{edge_le, word_found, word_none, made_new, flags_more}
 
 pub only_refl : (m at : ℕ) (w : List ℕ) → FlagsOnly m at w w
@@ -81,3 +84,27 @@ module _ (m at : ℕ) (w ws : List ℕ) (t : Tally) (q : ℕ) (e : Edge) (h : Fl
             after = λ k l o. get_or-set_other w (4 * m + 2 * q + edge) k step.tally.pins 0 (λ x. omega (arith, l, low, x));
           })
           x.long
+
+-- ---- the same of drafts
+module _ (m : ℕ) (d : Draft) (q : ℕ) (e : Edge) (h : IsFlagging m d) (lq : q < m) (edge : ℕ) (ee : edge ≡ edge_word e) where
+  pub adds_known : (get_or d.work.now (4 * m + 2 * q + edge) 0 ≡ 0 → ⊥) → AddsFlags m (flag_for (drivers_of d) q e).drivers d d (Some tt)
+  adds_known ne = record { loans = loans_refl d; flagged = flag_known m d.at d.work.now d.drivers.now d.tally q e h lq edge ee ne }
+
+  module _ (z : get_or d.work.now (4 * m + 2 * q + edge) 0 ≡ 0) (d₁ : Draft) (s : d₁.work.now ≡ d.work.now) where
+    pub adds_full : Adds (pushed (drivers_of d) (Flag q e)) d d₁ None → AddsFlags m (flag_for (drivers_of d) q e).drivers d d₁ None
+    adds_full a = record {
+      loans = a.loans;
+      flagged = subst (λ (w : List ℕ). Flagged m d.at (flag_for (drivers_of d) q e).drivers d.work.now d.drivers.now d.tally w d₁.drivers.now None) (sym s)
+          (flag_full m d.at d.work.now d.drivers.now d.tally q e h lq edge ee z d₁.drivers.now
+          (subst (λ (w : List ℕ). Extends d.at (pushed (drivers_of d) (Flag q e)) d.work.now d.drivers.now d.tally w d₁.drivers.now None) s a.extends));
+    }
+
+    pub adds_new : (lit : Literal) → Adds (pushed (drivers_of d) (Flag q e)) d d₁ (Some lit) → (work : MutBor (List ℕ)) → work.ghost_name ≡ d₁.work.ghost_name
+        → work.now ≡ set d₁.work.now (4 * m + 2 * q + edge) d₁.tally.pins → AddsFlags m (flag_for (drivers_of d) q e).drivers d (record d₁ { work = work }) (Some tt)
+    adds_new lit a work k f = record {
+      loans = record { drivers = a.loans.drivers; work = k ∙ a.loans.work; place = a.loans.place };
+      flagged = subst (λ (w : List ℕ). Flagged m d.at (flag_for (drivers_of d) q e).drivers d.work.now d.drivers.now d.tally w d₁.drivers.now (Some d₁.tally))
+          (sym (f ∙ ap (λ (w : List ℕ). set w (4 * m + 2 * q + edge) d₁.tally.pins) s))
+          (flag_new m d.at d.work.now d.drivers.now d.tally q e h lq edge ee z d₁.drivers.now (record { lit = lit; tally = d₁.tally })
+          (subst (λ (w : List ℕ). Extends d.at (pushed (drivers_of d) (Flag q e)) d.work.now d.drivers.now d.tally w d₁.drivers.now (added (Some lit) d₁.tally)) s a.extends));
+    }

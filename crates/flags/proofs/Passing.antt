@@ -31,18 +31,17 @@ use Rattle.clocks.specs.declared.WalkEnd.{WalkEnd}
 use Rattle.clocks.specs.declared.WalkEnd.TheVariants.{Still, Root, Strange, Far}
 use Rattle.clocks.specs.declared.Walked.{Walked}
 use Rattle.clocks.specs.Walks.{Span, told}
-use Rattle.drafts.specs.Table.{drafted, SameEnds}
+use Rattle.drafts.specs.declared.Draft.{Draft}
+use Rattle.drafts.specs.Table.{drafted, SameEnds, drivers_of, counted}
 use Rattle.drafts.specs.Layout.{flag_word}
 use Rattle.drafts.proofs.Steps.{ends_refl, ends_trans}
-use Rattle.flags.specs.Flagging.{Flagging, FlagsOnly, Flagged, made, full, Blank, PortWithin, flag_at, flag_if, flags_of}
+use Rattle.drafts.proofs.Drafting.{loans_refl, loans_trans}
+use Rattle.flags.specs.Flagging.{Flagging, FlagsOnly, Flagged, made, full, PortWithin, flag_at, flag_if, flags_of, IsFlagging, IsBlank, AddsFlags}
 use Rattle.flags.proofs.Words.{edge_le, word_alone}
 use Rattle.flags.proofs.Making.{only_refl, only_trans}
 use Rattle.flags.proofs.Roots.{flag_end, root_within}
 
 -- ---- one after the other
-pub flagged_begins : (m at : ℕ) (w ws : List ℕ) (t : Tally) → Flagging m at w ws t → Flagged m at (drafted ws t) w ws t w ws (Some t)
-flagged_begins m at w ws t h = made t refl h refl (ends_refl t) (only_refl m at w) refl
-
 -- what flags leave that fit
 pub record Kept (m at : ℕ) (ds : List Driver) (w ws : List ℕ) (t : Tally) (w' ws' : List ℕ) (t' : Tally) : Type 0 where
   pub state : Flagging m at w' ws' t'
@@ -52,9 +51,9 @@ pub record Kept (m at : ℕ) (ds : List Driver) (w ws : List ℕ) (t : Tally) (w
   pub long : length ws' ≡ length ws
 
 module _ (m at : ℕ) (ds : List Driver) (w ws : List ℕ) (t : Tally) (w₁ ws₁ : List ℕ) where
-  flagged_longer : (es : List Driver) → length ds ≤ length es → Flagged m at ds w ws t w₁ ws₁ None → Flagged m at es w ws t w₁ ws₁ None
-  flagged_longer es l (made u e a b c d f) = let z : None ≡ Some u = e in clash (cc)
-  flagged_longer es l (full a b c d) = full a (omega (arith, b, l)) c d
+  longer_flagged : (es : List Driver) → length ds ≤ length es → Flagged m at ds w ws t w₁ ws₁ None → Flagged m at es w ws t w₁ ws₁ None
+  longer_flagged es l (made u e a b c d f) = let z : None ≡ Some u = e in clash (cc)
+  longer_flagged es l (full a b c d) = full a (omega (arith, b, l)) c d
 
   module _ (u : Tally) where
     pub kept : Flagged m at ds w ws t w₁ ws₁ (Some u) → Kept m at ds w ws t w₁ ws₁ u
@@ -74,22 +73,41 @@ module _ (m at : ℕ) (ds : List Driver) (w ws : List ℕ) (t : Tally) (w₁ ws�
         on (made v e b c d g i) = made v e b c (ends_trans k.ends d) (only_trans k.only g) (i ∙ k.long)
         on (full a b c d) = full a (omega (arith, b, k.long)) (c ∙ k.only.long) (d ∙ k.long)
 
+-- ---- the same of drafts
+pub adds_none : (m : ℕ) (d : Draft) → IsFlagging m d → AddsFlags m (drivers_of d) d d (Some tt)
+adds_none m d h = record { loans = loans_refl d; flagged = made d.tally refl h refl (ends_refl d.tally) (only_refl m d.at d.work.now) refl }
+
+module _ (m : ℕ) (ds : List Driver) (d d₁ : Draft) where
+  adds_longer : (es : List Driver) → length ds ≤ length es → AddsFlags m ds d d₁ None → AddsFlags m es d d₁ None
+  adds_longer es l a = record {
+    loans = a.loans;
+    flagged = longer_flagged m d.at ds d.work.now d.drivers.now d.tally d₁.work.now d₁.drivers.now es l a.flagged;
+  }
+
+  module _ (a : AddsFlags m ds d d₁ (Some tt)) where
+    adds_then : (f : List Driver → List Driver) (d₂ : Draft) (r : Option (Unit {0})) → AddsFlags m (f (drivers_of d₁)) d₁ d₂ r → AddsFlags m (f ds) d d₂ r
+    adds_then f d₂ r b = record {
+      loans = loans_trans a.loans b.loans;
+      flagged = flagged_then m d.at ds d.work.now d.drivers.now d.tally d₁.work.now d₁.drivers.now d₁.tally f d₂.work.now d₂.drivers.now (counted r d₂.tally) a.flagged
+          (subst (λ (x : ℕ). Flagged m x (f (drivers_of d₁)) d₁.work.now d₁.drivers.now d₁.tally d₂.work.now d₂.drivers.now (counted r d₂.tally)) a.loans.place b.flagged);
+    }
+
 -- ---- the end of a walk
-module _ (m at : ℕ) (w ws : List ℕ) (t : Tally) (end : WalkEnd) where
-  same : flag_at (drafted ws t) end ≡ drafted ws t → Flagging m at w ws t → Flagged m at (flag_at (drafted ws t) end) w ws t w ws (Some t)
-  same e h = subst (λ (ds : List Driver). Flagged m at ds w ws t w ws (Some t)) (sym e) (flagged_begins m at w ws t h)
+module _ (m : ℕ) (d : Draft) (end : WalkEnd) where
+  same : flag_at (drivers_of d) end ≡ drivers_of d → IsFlagging m d → AddsFlags m (flag_at (drivers_of d) end) d d (Some tt)
+  same e h = subst (λ (ds : List Driver). AddsFlags m ds d d (Some tt)) (sym e) (adds_none m d h)
 
-  pub end_none : Flagging m at w ws t → (end ≡ Still) ⊎ ((end ≡ Strange) ⊎ (end ≡ Far)) → Flagged m at (flag_at (drafted ws t) end) w ws t w ws (Some t)
-  end_none h (inl e) = same (ap (flag_at (drafted ws t)) e) h
-  end_none h (inr (inl e)) = same (ap (flag_at (drafted ws t)) e) h
-  end_none h (inr (inr e)) = same (ap (flag_at (drafted ws t)) e) h
+  pub end_none : IsFlagging m d → (end ≡ Still) ⊎ ((end ≡ Strange) ⊎ (end ≡ Far)) → AddsFlags m (flag_at (drivers_of d) end) d d (Some tt)
+  end_none h (inl e) = same (ap (flag_at (drivers_of d)) e) h
+  end_none h (inr (inl e)) = same (ap (flag_at (drivers_of d)) e) h
+  end_none h (inr (inr e)) = same (ap (flag_at (drivers_of d)) e) h
 
-  pub end_root : (q : ℕ) (e : Edge) (w' ws' : List ℕ) (r : Option Tally) → end ≡ Root q e → Flagged m at (flag_for (drafted ws t) q e).drivers w ws t w' ws' r
-      → Flagged m at (flag_at (drafted ws t) end) w ws t w' ws' r
-  end_root q e w' ws' r s f = subst (λ (x : WalkEnd). Flagged m at (flag_at (drafted ws t) x) w ws t w' ws' r) (sym s) f
+  pub end_root : (q : ℕ) (e : Edge) (d₁ : Draft) (r : Option (Unit {0})) → end ≡ Root q e → AddsFlags m (flag_for (drivers_of d) q e).drivers d d₁ r
+      → AddsFlags m (flag_at (drivers_of d) end) d d₁ r
+  end_root q e d₁ r s f = subst (λ (x : WalkEnd). AddsFlags m (flag_at (drivers_of d) x) d d₁ r) (sym s) f
 
 -- ---- a pin
-module _ (kinds starts list pins nets : List ℕ) (at : ℕ) (w ws : List ℕ) (t : Tally) (k p name : ℕ) (clock : Bool)
+module _ (kinds starts list pins nets : List ℕ) (d : Draft) (k p name : ℕ) (clock : Bool)
     (en : name ≡ get_or pins (5 * p + 1) 0) (ec : clock ≡ is_clock (kind_at k) name) where
   abbrev n : Netlist
   n = tables kinds starts list pins nets
@@ -97,18 +115,18 @@ module _ (kinds starts list pins nets : List ℕ) (at : ℕ) (w ws : List ℕ) (
   tested : is_clock (kind_at k) (name_of n p) ≡ clock
   tested = sym (ec ∙ ap (is_clock (kind_at k)) en)
 
-  pub pin_idle : clock ≡ false → Flagging (length list) at w ws t
-      → Flagged (length list) at (flag_if (tables kinds starts list pins nets) (kind_at k) (drafted ws t) p) w ws t w ws (Some t)
+  pub pin_idle : clock ≡ false → IsFlagging (length list) d
+      → AddsFlags (length list) (flag_if (tables kinds starts list pins nets) (kind_at k) (drivers_of d) p) d d (Some tt)
   unfolding flag_if
-  pin_idle f h = rw (tested ∙ f) (flagged_begins (length list) at w ws t h)
+  pin_idle f h = rw (tested ∙ f) (adds_none (length list) d h)
 
-  pub pin_walked : clock ≡ true → (x : Walked) → x ≡ told (walk (tables kinds starts list pins nets) p) 0 → (w' ws' : List ℕ) (r : Option Tally)
-      → Flagged (length list) at (flag_at (drafted ws t) x.end) w ws t w' ws' r
-      → Flagged (length list) at (flag_if (tables kinds starts list pins nets) (kind_at k) (drafted ws t) p) w ws t w' ws' r
+  pub pin_walked : clock ≡ true → (x : Walked) → x ≡ told (walk (tables kinds starts list pins nets) p) 0 → (d₁ : Draft) (r : Option (Unit {0}))
+      → AddsFlags (length list) (flag_at (drivers_of d) x.end) d d₁ r
+      → AddsFlags (length list) (flag_if (tables kinds starts list pins nets) (kind_at k) (drivers_of d) p) d d₁ r
   unfolding flag_if
-  pin_walked y x ex w' ws' r s = rw (tested ∙ y)
-      (subst (λ (ds : List Driver). Flagged (length list) at ds w ws t w' ws' r)
-      (ap (λ (v : Walked). flag_at (drafted ws t) v.end) ex ∙ sym (flag_end (drafted ws t) (walk n p))) s)
+  pin_walked y x ex d₁ r s = rw (tested ∙ y)
+      (subst (λ (ds : List Driver). AddsFlags (length list) ds d d₁ r)
+      (ap (λ (v : Walked). flag_at (drivers_of d) v.end) ex ∙ sym (flag_end (drivers_of d) (walk n p))) s)
 
 pub walk-within : (kinds starts list pins nets : List ℕ) (p : ℕ) (x : Walked) → Fits (tables kinds starts list pins nets) → p < length list
     → x ≡ told (walk (tables kinds starts list pins nets) p) 0 → PortWithin (length list) x.end
@@ -134,44 +152,43 @@ longer-take h g (suc i) [] ds = omega arith
 longer-take h g (suc i) (x ∷ l) ds = longer-take h g i l (h ds x)
 
 -- the first i of a list have been worked
-pub record Passing (h : List Driver → ℕ → List Driver) (m at : ℕ) (l w₀ ws₀ : List ℕ) (t₀ : Tally) (w ws : List ℕ) (t : Tally) (i : ℕ) : Type 0 where
+pub record Passing (h : List Driver → ℕ → List Driver) (m : ℕ) (l : List ℕ) (d₀ d : Draft) (i : ℕ) : Type 0 where
   pub inside : i ≤ length l
-  pub so_far : Flagged m at (over h (drafted ws₀ t₀) (take i l)) w₀ ws₀ t₀ w ws (Some t)
+  pub so_far : AddsFlags m (over h (drivers_of d₀) (take i l)) d₀ d (Some tt)
 
-passing_begins : (h : List Driver → ℕ → List Driver) (m at : ℕ) (l w ws : List ℕ) (t : Tally) → Flagging m at w ws t → Passing h m at l w ws t w ws t 0
-passing_begins h m at l w ws t f = record { inside = omega arith; so_far = flagged_begins m at w ws t f }
+passing_begins : (h : List Driver → ℕ → List Driver) (m : ℕ) (l : List ℕ) (d : Draft) → IsFlagging m d → Passing h m l d d 0
+passing_begins h m l d f = record { inside = omega arith; so_far = adds_none m d f }
 
-module _ (h : List Driver → ℕ → List Driver) (m at : ℕ) (l w₀ ws₀ : List ℕ) (t₀ : Tally) (w ws : List ℕ) (t : Tally) (i : ℕ)
-    (p : Passing h m at l w₀ ws₀ t₀ w ws t i) where
-  passing_ends : length l ≤ i → Flagged m at (over h (drafted ws₀ t₀) l) w₀ ws₀ t₀ w ws (Some t)
-  passing_ends e = subst (λ (k : List ℕ). Flagged m at (over h (drafted ws₀ t₀) k) w₀ ws₀ t₀ w ws (Some t)) (take_all i l e) p.so_far
+module _ (h : List Driver → ℕ → List Driver) (m : ℕ) (l : List ℕ) (d₀ d : Draft) (i : ℕ) (p : Passing h m l d₀ d i) where
+  passing_ends : length l ≤ i → AddsFlags m (over h (drivers_of d₀) l) d₀ d (Some tt)
+  passing_ends e = subst (λ (k : List ℕ). AddsFlags m (over h (drivers_of d₀) k) d₀ d (Some tt)) (take_all i l e) p.so_far
 
-  module _ (e : i < length l) (w₁ ws₁ : List ℕ) where
-    next : (r : Option Tally) → Flagged m at (h (drafted ws t) (get_or l i 0)) w ws t w₁ ws₁ r → Flagged m at (over h (drafted ws₀ t₀) (take (suc i) l)) w₀ ws₀ t₀ w₁ ws₁ r
-    next r s = subst (λ (ds : List Driver). Flagged m at ds w₀ ws₀ t₀ w₁ ws₁ r) (sym (over-take h (drafted ws₀ t₀) l i 0 e))
-        (flagged_then m at (over h (drafted ws₀ t₀) (take i l)) w₀ ws₀ t₀ w ws t (λ ds. h ds (get_or l i 0)) w₁ ws₁ r p.so_far s)
+  module _ (e : i < length l) (d₁ : Draft) where
+    next : (r : Option (Unit {0})) → AddsFlags m (h (drivers_of d) (get_or l i 0)) d d₁ r → AddsFlags m (over h (drivers_of d₀) (take (suc i) l)) d₀ d₁ r
+    next r s = subst (λ (ds : List Driver). AddsFlags m ds d₀ d₁ r) (sym (over-take h (drivers_of d₀) l i 0 e))
+        (adds_then m (over h (drivers_of d₀) (take i l)) d₀ d p.so_far (λ ds. h ds (get_or l i 0)) d₁ r s)
 
-    passing_goes_on : (u : Tally) → Flagged m at (h (drafted ws t) (get_or l i 0)) w ws t w₁ ws₁ (Some u) → Passing h m at l w₀ ws₀ t₀ w₁ ws₁ u (i + 1)
-    passing_goes_on u s = record {
+    passing_goes_on : AddsFlags m (h (drivers_of d) (get_or l i 0)) d d₁ (Some tt) → Passing h m l d₀ d₁ (i + 1)
+    passing_goes_on s = record {
       inside = omega arith;
-      so_far = subst (λ (k : ℕ). Flagged m at (over h (drafted ws₀ t₀) (take k l)) w₀ ws₀ t₀ w₁ ws₁ (Some u)) (sym (add-one i)) (next (Some u) s);
+      so_far = subst (λ (k : ℕ). AddsFlags m (over h (drivers_of d₀) (take k l)) d₀ d₁ (Some tt)) (sym (add-one i)) (next (Some tt) s);
     }
 
-    passing_stops : ((ds : List Driver) (x : ℕ) → length ds ≤ length (h ds x)) → Flagged m at (h (drafted ws t) (get_or l i 0)) w ws t w₁ ws₁ None
-        → Flagged m at (over h (drafted ws₀ t₀) l) w₀ ws₀ t₀ w₁ ws₁ None
-    passing_stops g s = flagged_longer m at (over h (drafted ws₀ t₀) (take (suc i) l)) w₀ ws₀ t₀ w₁ ws₁ (over h (drafted ws₀ t₀) l)
-        (longer-take h g (suc i) l (drafted ws₀ t₀)) (next None s)
+    passing_stops : ((ds : List Driver) (x : ℕ) → length ds ≤ length (h ds x)) → AddsFlags m (h (drivers_of d) (get_or l i 0)) d d₁ None
+        → AddsFlags m (over h (drivers_of d₀) l) d₀ d₁ None
+    passing_stops g s = adds_longer m (over h (drivers_of d₀) (take (suc i) l)) d₀ d₁ (over h (drivers_of d₀) l)
+        (longer-take h g (suc i) l (drivers_of d₀)) (next None s)
 
 -- ---- a list
-module _ (kinds starts list pins nets : List ℕ) (at : ℕ) (k a n : ℕ) where
+module _ (kinds starts list pins nets : List ℕ) (k a n : ℕ) where
   -- the entries from a on
-  abbrev pub PassingList : List ℕ → List ℕ → Tally → List ℕ → List ℕ → Tally → ℕ → Type 0
-  PassingList = Passing (flag_if (tables kinds starts list pins nets) (kind_at k)) (length list) at (take n (drop a list))
+  abbrev pub PassingList : Draft → Draft → ℕ → Type 0
+  PassingList = Passing (flag_if (tables kinds starts list pins nets) (kind_at k)) (length list) (take n (drop a list))
 
-  pub list_begins : (w ws : List ℕ) (t : Tally) → Flagging (length list) at w ws t → PassingList w ws t w ws t 0
-  list_begins w ws t f = passing_begins (flag_if (tables kinds starts list pins nets) (kind_at k)) (length list) at (take n (drop a list)) w ws t f
+  pub list_begins : (d : Draft) → IsFlagging (length list) d → PassingList d d 0
+  list_begins d f = passing_begins (flag_if (tables kinds starts list pins nets) (kind_at k)) (length list) (take n (drop a list)) d f
 
-  module _ (sp : Span list a n) (w₀ ws₀ : List ℕ) (t₀ : Tally) (w ws : List ℕ) (t : Tally) (i : ℕ) (p : PassingList w₀ ws₀ t₀ w ws t i) where
+  module _ (sp : Span list a n) (d₀ d : Draft) (i : ℕ) (p : PassingList d₀ d i) where
     abbrev h : List Driver → ℕ → List Driver
     h = flag_if (tables kinds starts list pins nets) (kind_at k)
 
@@ -179,23 +196,22 @@ module _ (kinds starts list pins nets : List ℕ) (at : ℕ) (k a n : ℕ) where
     unfolding part
     whole = part_length list a n sp.fits
 
-    pub list_ends : n ≤ i → Flagged (length list) at (over (flag_if (tables kinds starts list pins nets) (kind_at k)) (drafted ws₀ t₀) (take n (drop a list))) w₀ ws₀ t₀ w ws (Some t)
-    list_ends l = passing_ends h (length list) at (take n (drop a list)) w₀ ws₀ t₀ w ws t i p (omega (arith, l, whole))
+    pub list_ends : n ≤ i → AddsFlags (length list) (over (flag_if (tables kinds starts list pins nets) (kind_at k)) (drivers_of d₀) (take n (drop a list))) d₀ d (Some tt)
+    list_ends l = passing_ends h (length list) (take n (drop a list)) d₀ d i p (omega (arith, l, whole))
 
-    module _ (l : i < n) (w₁ ws₁ : List ℕ) where
-      here : (r : Option Tally) → Flagged (length list) at (flag_if (tables kinds starts list pins nets) (kind_at k) (drafted ws t) (get_or list (a + i) 0)) w ws t w₁ ws₁ r
-          → Flagged (length list) at (h (drafted ws t) (get_or (take n (drop a list)) i 0)) w ws t w₁ ws₁ r
+    module _ (l : i < n) (d₁ : Draft) where
+      here : (r : Option (Unit {0})) → AddsFlags (length list) (flag_if (tables kinds starts list pins nets) (kind_at k) (drivers_of d) (get_or list (a + i) 0)) d d₁ r
+          → AddsFlags (length list) (h (drivers_of d) (get_or (take n (drop a list)) i 0)) d d₁ r
       unfolding part
-      here r s = subst (λ (x : ℕ). Flagged (length list) at (h (drafted ws t) x) w ws t w₁ ws₁ r) (sym (part_at list a n i l)) s
+      here r s = subst (λ (x : ℕ). AddsFlags (length list) (h (drivers_of d) x) d d₁ r) (sym (part_at list a n i l)) s
 
-      pub list_goes_on : (u : Tally)
-          → Flagged (length list) at (flag_if (tables kinds starts list pins nets) (kind_at k) (drafted ws t) (get_or list (a + i) 0)) w ws t w₁ ws₁ (Some u)
-          → PassingList w₀ ws₀ t₀ w₁ ws₁ u (i + 1)
-      list_goes_on u s = passing_goes_on h (length list) at (take n (drop a list)) w₀ ws₀ t₀ w ws t i p (omega (arith, l, whole)) w₁ ws₁ u (here (Some u) s)
+      pub list_goes_on : AddsFlags (length list) (flag_if (tables kinds starts list pins nets) (kind_at k) (drivers_of d) (get_or list (a + i) 0)) d d₁ (Some tt)
+          → PassingList d₀ d₁ (i + 1)
+      list_goes_on s = passing_goes_on h (length list) (take n (drop a list)) d₀ d i p (omega (arith, l, whole)) d₁ (here (Some tt) s)
 
-      pub list_stops : Flagged (length list) at (flag_if (tables kinds starts list pins nets) (kind_at k) (drafted ws t) (get_or list (a + i) 0)) w ws t w₁ ws₁ None
-          → Flagged (length list) at (over (flag_if (tables kinds starts list pins nets) (kind_at k)) (drafted ws₀ t₀) (take n (drop a list))) w₀ ws₀ t₀ w₁ ws₁ None
-      list_stops s = passing_stops h (length list) at (take n (drop a list)) w₀ ws₀ t₀ w ws t i p (omega (arith, l, whole)) w₁ ws₁
+      pub list_stops : AddsFlags (length list) (flag_if (tables kinds starts list pins nets) (kind_at k) (drivers_of d) (get_or list (a + i) 0)) d d₁ None
+          → AddsFlags (length list) (over (flag_if (tables kinds starts list pins nets) (kind_at k)) (drivers_of d₀) (take n (drop a list))) d₀ d₁ None
+      list_stops s = passing_stops h (length list) (take n (drop a list)) d₀ d i p (omega (arith, l, whole)) d₁
           (longer_if (tables kinds starts list pins nets) (kind_at k)) (here None s)
 
 -- ---- a cell
@@ -206,14 +222,14 @@ over-kept n k (x ∷ l) ds = by_test (is_clock k (name_of n x))
     (λ t. rw t (over-kept n k l (flag_of ds (walk n x))))
     (λ f. rw f (over-kept n k l ds))
 
-pub cell_flagged : (kinds starts list pins nets : List ℕ) (at c : ℕ) (w ws : List ℕ) (t : Tally) (w' ws' : List ℕ) (r : Option Tally)
-    → Flagged (length list) at
-    (over (flag_if (tables kinds starts list pins nets) (kind_at (get_or kinds c 0))) (drafted ws t) (take (get_or starts (c + 1) 0 - get_or starts c 0) (drop (get_or starts c 0) list)))
-    w ws t w' ws' r
-    → Flagged (length list) at (flags_of (tables kinds starts list pins nets) (drafted ws t) c) w ws t w' ws' r
+pub cell_flagged : (kinds starts list pins nets : List ℕ) (c : ℕ) (d d₁ : Draft) (r : Option (Unit {0}))
+    → AddsFlags (length list)
+    (over (flag_if (tables kinds starts list pins nets) (kind_at (get_or kinds c 0))) (drivers_of d) (take (get_or starts (c + 1) 0 - get_or starts c 0) (drop (get_or starts c 0) list)))
+    d d₁ r
+    → AddsFlags (length list) (flags_of (tables kinds starts list pins nets) (drivers_of d) c) d d₁ r
 unfolding flags_of
-cell_flagged kinds starts list pins nets at c w ws t w' ws' r s = subst (λ (ds : List Driver). Flagged (length list) at ds w ws t w' ws' r)
-    (over-kept (tables kinds starts list pins nets) (kind_at (get_or kinds c 0)) (pins_of (tables kinds starts list pins nets) c) (drafted ws t)) s
+cell_flagged kinds starts list pins nets c d d₁ r s = subst (λ (ds : List Driver). AddsFlags (length list) ds d d₁ r)
+    (over-kept (tables kinds starts list pins nets) (kind_at (get_or kinds c 0)) (pins_of (tables kinds starts list pins nets) c) (drivers_of d)) s
 
 -- ---- all cells
 longer_cell : (n : Netlist) (ds : List Driver) (c : ℕ) → length ds ≤ length (flags_of n ds c)
@@ -224,12 +240,12 @@ all_flagged : (n : Netlist) → over (flags_of n) (Constant ∷ []) (upto (cells
 unfolding flags_of
 all_flagged n = sym (over-flat (λ es p. flag_of es (walk n p)) (clocks_of n) (Constant ∷ []) (upto (cells n)))
 
-module _ (kinds starts list pins nets : List ℕ) (at : ℕ) where
-  abbrev pub PassingCells : List ℕ → List ℕ → Tally → List ℕ → List ℕ → Tally → ℕ → Type 0
-  PassingCells = Passing (flags_of (tables kinds starts list pins nets)) (length list) at (upto (length kinds))
+module _ (kinds starts list pins nets : List ℕ) where
+  abbrev pub PassingCells : Draft → Draft → ℕ → Type 0
+  PassingCells = Passing (flags_of (tables kinds starts list pins nets)) (length list) (upto (length kinds))
 
-  pub cells_begin : (w ws : List ℕ) (t : Tally) → Blank (length list) at w ws t → PassingCells w ws t w ws t 0
-  cells_begin w ws t b = passing_begins (flags_of (tables kinds starts list pins nets)) (length list) at (upto (length kinds)) w ws t (record {
+  pub cells_begin : (d : Draft) → IsBlank (length list) d → PassingCells d d 0
+  cells_begin d b = passing_begins (flags_of (tables kinds starts list pins nets)) (length list) (upto (length kinds)) d (record {
     table = b.table;
     first = ap (λ (ds : List Driver). driver_at ds 0) b.alone;
     flags = record {
@@ -240,28 +256,28 @@ module _ (kinds starts list pins nets : List ℕ) (at : ℕ) where
     inside = b.inside;
   })
 
-  module _ (w₀ ws₀ : List ℕ) (t₀ : Tally) (b : Blank (length list) at w₀ ws₀ t₀) (w ws : List ℕ) (t : Tally) (c : ℕ) (p : PassingCells w₀ ws₀ t₀ w ws t c) where
+  module _ (d₀ : Draft) (b : IsBlank (length list) d₀) (d : Draft) (c : ℕ) (p : PassingCells d₀ d c) where
     abbrev g : List Driver → ℕ → List Driver
     g = flags_of (tables kinds starts list pins nets)
 
-    final : over g (drafted ws₀ t₀) (upto (length kinds)) ≡ step1 (tables kinds starts list pins nets)
+    final : over g (drivers_of d₀) (upto (length kinds)) ≡ step1 (tables kinds starts list pins nets)
     final = ap (λ (ds : List Driver). over g ds (upto (length kinds))) b.alone ∙ all_flagged (tables kinds starts list pins nets)
 
-    pub cells_end : length kinds ≤ c → Flagged (length list) at (step1 (tables kinds starts list pins nets)) w₀ ws₀ t₀ w ws (Some t)
-    cells_end l = subst (λ (ds : List Driver). Flagged (length list) at ds w₀ ws₀ t₀ w ws (Some t)) final
-        (passing_ends g (length list) at (upto (length kinds)) w₀ ws₀ t₀ w ws t c p (omega (arith, l, length-upto (length kinds))))
+    pub cells_end : length kinds ≤ c → AddsFlags (length list) (step1 (tables kinds starts list pins nets)) d₀ d (Some tt)
+    cells_end l = subst (λ (ds : List Driver). AddsFlags (length list) ds d₀ d (Some tt)) final
+        (passing_ends g (length list) (upto (length kinds)) d₀ d c p (omega (arith, l, length-upto (length kinds))))
 
-    module _ (l : c < length kinds) (w₁ ws₁ : List ℕ) where
-      there : (r : Option Tally) → Flagged (length list) at (flags_of (tables kinds starts list pins nets) (drafted ws t) c) w ws t w₁ ws₁ r
-          → Flagged (length list) at (g (drafted ws t) (get_or (upto (length kinds)) c 0)) w ws t w₁ ws₁ r
-      there r s = subst (λ (x : ℕ). Flagged (length list) at (g (drafted ws t) x) w ws t w₁ ws₁ r) (sym (at_upto (length kinds) c l)) s
+    module _ (l : c < length kinds) (d₁ : Draft) where
+      there : (r : Option (Unit {0})) → AddsFlags (length list) (flags_of (tables kinds starts list pins nets) (drivers_of d) c) d d₁ r
+          → AddsFlags (length list) (g (drivers_of d) (get_or (upto (length kinds)) c 0)) d d₁ r
+      there r s = subst (λ (x : ℕ). AddsFlags (length list) (g (drivers_of d) x) d d₁ r) (sym (at_upto (length kinds) c l)) s
 
-      pub cells_go_on : (u : Tally) → Flagged (length list) at (flags_of (tables kinds starts list pins nets) (drafted ws t) c) w ws t w₁ ws₁ (Some u)
-          → PassingCells w₀ ws₀ t₀ w₁ ws₁ u (c + 1)
-      cells_go_on u s = passing_goes_on g (length list) at (upto (length kinds)) w₀ ws₀ t₀ w ws t c p (omega (arith, l, length-upto (length kinds))) w₁ ws₁ u (there (Some u) s)
+      pub cells_go_on : AddsFlags (length list) (flags_of (tables kinds starts list pins nets) (drivers_of d) c) d d₁ (Some tt)
+          → PassingCells d₀ d₁ (c + 1)
+      cells_go_on s = passing_goes_on g (length list) (upto (length kinds)) d₀ d c p (omega (arith, l, length-upto (length kinds))) d₁ (there (Some tt) s)
 
-      pub cells_stop : Flagged (length list) at (flags_of (tables kinds starts list pins nets) (drafted ws t) c) w ws t w₁ ws₁ None
-          → Flagged (length list) at (step1 (tables kinds starts list pins nets)) w₀ ws₀ t₀ w₁ ws₁ None
-      cells_stop s = subst (λ (ds : List Driver). Flagged (length list) at ds w₀ ws₀ t₀ w₁ ws₁ None) final
-          (passing_stops g (length list) at (upto (length kinds)) w₀ ws₀ t₀ w ws t c p (omega (arith, l, length-upto (length kinds))) w₁ ws₁
+      pub cells_stop : AddsFlags (length list) (flags_of (tables kinds starts list pins nets) (drivers_of d) c) d d₁ None
+          → AddsFlags (length list) (step1 (tables kinds starts list pins nets)) d₀ d₁ None
+      cells_stop s = subst (λ (ds : List Driver). AddsFlags (length list) ds d₀ d₁ None) final
+          (passing_stops g (length list) (upto (length kinds)) d₀ d c p (omega (arith, l, length-upto (length kinds))) d₁
           (longer_cell (tables kinds starts list pins nets)) (there None s))

@@ -10,7 +10,8 @@ use Rattle.rules.specs.Graph.{driver_at}
 use Rattle.rules.specs.Build.{is_clock, clocks_of, walk, flag_for, flag_of}
 use Rattle.clocks.specs.declared.WalkEnd.{WalkEnd}
 use Rattle.clocks.specs.declared.WalkEnd.TheVariants.{Still, Root, Strange, Far}
-use Rattle.drafts.specs.Table.{Table, drafted, SameEnds}
+use Rattle.drafts.specs.declared.Draft.{Draft}
+use Rattle.drafts.specs.Table.{Table, drafted, SameEnds, counted, SameLoans}
 use Rattle.drafts.specs.Layout.{Flags}
 
 -- ---- step 1, as the code takes it
@@ -58,3 +59,14 @@ pub record Blank (m at : ℕ) (w ws : List ℕ) (t : Tally) : Type 0 where
   pub clear : (j : ℕ) → 4 * m ≤ j → j < 6 * m → get_or w j 0 ≡ 0
   pub small : m ≤ 1048576
   pub inside : 6 * m ≤ at
+
+-- ---- the same of a draft
+abbrev pub IsFlagging : ℕ → Draft → Type 0
+IsFlagging m d = Flagging m d.at d.work.now d.drivers.now d.tally
+
+abbrev pub IsBlank : ℕ → Draft → Type 0
+IsBlank m d = Blank m d.at d.work.now d.drivers.now d.tally
+
+pub record AddsFlags (m : ℕ) (ds : List Driver) (d d' : Draft) (r : Option (Unit {0})) : Type 0 where
+  pub loans : SameLoans d d'
+  pub flagged : Flagged m d.at ds d.work.now d.drivers.now d.tally d'.work.now d'.drivers.now (counted r d'.tally)

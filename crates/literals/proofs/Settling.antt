@@ -7,6 +7,7 @@ use native.Mathlib.Omega.{arith}
 use lib.ListN.{length, get_or, set, length-set}
 use lib.Seq.{get_or-set_same, get_or-set_other}
 use Rattle.std.specs.Prelude.{Option, Some, None}
+use Rattle.std.specs.Borrow.{MutBor}
 use Rattle.laws.specs.Lists.{count, first_or}
 use Rattle.laws.proofs.Bags.{here}
 use Rattle.rules.specs.declared.Literal.{Literal}
@@ -16,10 +17,11 @@ use Rattle.rules.specs.Graph.{opposite_if, Made, and_of}
 use Rattle.rules.proofs.Tables.{clash, of_name}
 use Rattle.roles.specs.Reading.{tables, Fits, entry_of, either_in, cell_pins}
 use Rattle.roles.proofs.Roles.{either_same}
-use Rattle.drafts.specs.declared.Added.{Added}
-use Rattle.drafts.specs.Table.{Table, drafted, set_reset, Extends}
+use Rattle.drafts.specs.declared.Draft.{Draft}
+use Rattle.drafts.specs.Table.{Added, Table, drafted, drivers_of, set_reset, Extends, Adds}
 use Rattle.drafts.proofs.Steps.{table_store, extended}
-use Rattle.literals.specs.Settled.{word_at, turned_made, Left, left}
+use Rattle.literals.specs.Settled.{word_at, turned_made, Left, left, full, Leaves}
+use Rattle.drafts.specs.Table as table
 
 -- ---- a step that fits, and its literal written
 pub left_turned : (at m p : ℕ) (z : Bool) (k : Made) (w ws : List ℕ) (t : Tally) (w₁ ws₁ : List ℕ) (step : Added) (o : Literal) (w₂ : List ℕ) → 7 * m + p < at
@@ -39,18 +41,38 @@ left_turned at m p z k w ws t w₁ ws₁ step o w₂ l s f h =
     ∙ f ∙ ap (opposite_if z) x.lit)
     x.long
 
-pub left_plain : (at m p : ℕ) (k : Made) (w ws : List ℕ) (t : Tally) (w₁ ws₁ : List ℕ) (step : Added) (w₂ : List ℕ) → 7 * m + p < at
-    → Extends at k w ws t w₁ ws₁ (Some step) → w₂ ≡ set w₁ (7 * m + p) step.lit.word → Left at m p k w ws t w₂ ws₁ (Some step.tally)
-left_plain at m p k w ws t w₁ ws₁ step w₂ l s h = left_turned at m p false k w ws t w₁ ws₁ step step.lit w₂ l s refl h
+-- the same of drafts
+module _ (m p : ℕ) (k : Made) (d d₁ : Draft) where
+  pub turned_none : (z : Bool) → Adds k d d₁ None → Leaves m p (turned_made z k) d d₁ None
+  turned_none z a = record { loans = a.loans; left = turned_full None refl a.extends }
+    where
+      turned_full : (r : Option Added) → r ≡ None → Extends d.at k d.work.now d.drivers.now d.tally d₁.work.now d₁.drivers.now r
+          → Left d.at m p (turned_made z k) d.work.now d.drivers.now d.tally d₁.work.now d₁.drivers.now None
+      turned_full r e (table.made a' b c f g h i j) = let z : None ≡ Some a' = sym e ∙ b in clash (cc)
+      turned_full r e (table.full a' b c f) = full refl b c f
+
+  pub leaves_none : Adds k d d₁ None → Leaves m p k d d₁ None
+  leaves_none = turned_none false
+
+  module _ (lit : Literal) (a : Adds k d d₁ (Some lit)) (l : 7 * m + p < d.at) (work : MutBor (List ℕ)) (g : work.ghost_name ≡ d₁.work.ghost_name) where
+    pub leaves_turned : (z : Bool) (o : Literal) → o.word ≡ opposite_if z lit.word → work.now ≡ set d₁.work.now (7 * m + p) o.word
+        → Leaves m p (turned_made z k) d (record d₁ { work = work }) (Some tt)
+    leaves_turned z o f h = record {
+      loans = record { drivers = a.loans.drivers; work = g ∙ a.loans.work; place = a.loans.place };
+      left = left_turned d.at m p z k d.work.now d.drivers.now d.tally d₁.work.now d₁.drivers.now (record { lit = lit; tally = d₁.tally }) o work.now l a.extends f h;
+    }
+
+    pub leaves_plain : work.now ≡ set d₁.work.now (7 * m + p) lit.word → Leaves m p k d (record d₁ { work = work }) (Some tt)
+    leaves_plain h = leaves_turned false lit refl h
 
 -- ---- the output of an AND2
-pub and_left : (at m p : ℕ) (x y z : Bool) (a b : ℕ) (w ws : List ℕ) (t : Tally) (w₂ ws₁ : List ℕ) (r : Option Tally) (one two : Literal)
-    → one.word ≡ opposite_if x (word_at w m a) → two.word ≡ opposite_if y (word_at w m b)
-    → Left at m p (turned_made z (and_of (drafted ws t) one.word two.word)) w ws t w₂ ws₁ r
-    → Left at m p (turned_made z (and_of (drafted ws t) (opposite_if x (word_at w m a)) (opposite_if y (word_at w m b)))) w ws t w₂ ws₁ r
-and_left at m p x y z a b w ws t w₂ ws₁ r one two e₁ e₂ s =
-    subst (λ (u : ℕ). Left at m p (turned_made z (and_of (drafted ws t) (opposite_if x (word_at w m a)) u)) w ws t w₂ ws₁ r) e₂
-    (subst (λ (u : ℕ). Left at m p (turned_made z (and_of (drafted ws t) u two.word)) w ws t w₂ ws₁ r) e₁ s)
+pub leaves_and : (m p : ℕ) (x y z : Bool) (a b : ℕ) (d d₁ : Draft) (r : Option (Unit {0})) (one two : Literal)
+    → one.word ≡ opposite_if x (word_at d.work.now m a) → two.word ≡ opposite_if y (word_at d.work.now m b)
+    → Leaves m p (turned_made z (and_of (drivers_of d) one.word two.word)) d d₁ r
+    → Leaves m p (turned_made z (and_of (drivers_of d) (opposite_if x (word_at d.work.now m a)) (opposite_if y (word_at d.work.now m b)))) d d₁ r
+leaves_and m p x y z a b d d₁ r one two e₁ e₂ s =
+    subst (λ (u : ℕ). Leaves m p (turned_made z (and_of (drivers_of d) (opposite_if x (word_at d.work.now m a)) u)) d d₁ r) e₂
+    (subst (λ (u : ℕ). Leaves m p (turned_made z (and_of (drivers_of d) u two.word)) d d₁ r) e₁ s)
 
 -- ---- the literal of a cell's pin by its name
 pub first_some : (d : ℕ) (f : ℕ → ℕ) (l : List ℕ) (q : ℕ) → Some q ≡ entry_of l 0 → f q ≡ first_or d f l
@@ -88,8 +110,8 @@ module _ (kinds starts list pins nets w : List ℕ) (cell name absent : ℕ) whe
   literal-none s = first_none absent (word_at w (length list)) (named n cell name) (s ∙ at_name)
 
 -- ---- the output of a flip-flop
-pub flop_left : (at m p : ℕ) (w ws : List ℕ) (t : Tally) (v s r : ℕ) (w₂ ws₁ : List ℕ) (o : Option Tally) (set reset : Literal) → set.word ≡ s → reset.word ≡ r
-    → Left at m p (set_reset (drafted ws t) v set.word reset.word) w ws t w₂ ws₁ o → Left at m p (set_reset (drafted ws t) v s r) w ws t w₂ ws₁ o
-flop_left at m p w ws t v s r w₂ ws₁ o set reset es er x =
-    subst (λ (u : ℕ). Left at m p (set_reset (drafted ws t) v s u) w ws t w₂ ws₁ o) er
-    (subst (λ (u : ℕ). Left at m p (set_reset (drafted ws t) v u reset.word) w ws t w₂ ws₁ o) es x)
+pub leaves_flop : (m p : ℕ) (d d₁ : Draft) (v s r : ℕ) (o : Option (Unit {0})) (set reset : Literal) → set.word ≡ s → reset.word ≡ r
+    → Leaves m p (set_reset (drivers_of d) v set.word reset.word) d d₁ o → Leaves m p (set_reset (drivers_of d) v s r) d d₁ o
+leaves_flop m p d d₁ v s r o set reset es er x =
+    subst (λ (u : ℕ). Leaves m p (set_reset (drivers_of d) v s u) d d₁ o) er
+    (subst (λ (u : ℕ). Leaves m p (set_reset (drivers_of d) v u reset.word) d d₁ o) es x)

@@ -2,7 +2,8 @@
 use Rattle.std.specs.Prelude.{◌≡◌, Bool, Option, Some, None, List, ℕ, ◌+◌, ◌*◌, ◌<◌, length, get_or}
 use Rattle.rules.specs.declared.Tally.{Tally}
 use Rattle.rules.specs.Graph.{opposite_if, Made}
-use Rattle.drafts.specs.Table.{Table, drafted, SameEnds}
+use Rattle.drafts.specs.declared.Draft.{Draft}
+use Rattle.drafts.specs.Table.{Table, drafted, SameEnds, counted, SameLoans}
 
 abbrev pub word_at : List ℕ → ℕ → ℕ → ℕ
 word_at w m p = get_or w (7 * m + p) 0
@@ -20,3 +21,8 @@ pub data Left (at m p : ℕ) (k : Made) (w ws : List ℕ) (t : Tally) (w' ws' : 
   left : (t' : Tally) → r ≡ Some t' → Table at w' ws' t' → drafted ws' t' ≡ k.drivers → SameEnds t t' → Except at (7 * m + p) w w'
       → word_at w' m p ≡ k.lit → length ws' ≡ length ws → Left at m p k w ws t w' ws' r
   full : r ≡ None → length ws < 3 * length k.drivers → length w' ≡ length w → length ws' ≡ length ws → Left at m p k w ws t w' ws' r
+
+-- the same of a draft
+pub record Leaves (m p : ℕ) (k : Made) (d d' : Draft) (r : Option (Unit {0})) : Type 0 where
+  pub loans : SameLoans d d'
+  pub left : Left d.at m p k d.work.now d.drivers.now d.tally d'.work.now d'.drivers.now (counted r d'.tally)

@@ -4,11 +4,11 @@ use Rattle.flags.proofs.list_flags.Goals as goal
 pub loop-i-init : goal.loop-i-init
 loop-i-init c = search list_begins
 
-pub returns-in_err-tally : goal.returns-in_err-tally
-returns-in_err-tally c = rw c.from_residual.ensures (search (list_stops, c.in_err-tally.ensures))
+pub returns-in_err-pin_flag : goal.returns-in_err-pin_flag
+returns-in_err-pin_flag c = rw c.from_residual.ensures (search (list_stops, c.in_err-pin_flag.ensures))
 
 pub loop-i-preserved : goal.loop-i-preserved
-loop-i-preserved c = search (list_goes_on, c.in_ok-tally.ensures)
+loop-i-preserved c = search (list_goes_on, c.in_ok-pin_flag.ensures)
 
 pub returns : goal.returns
 returns c = search list_ends

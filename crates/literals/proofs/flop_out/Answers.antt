@@ -1,5 +1,5 @@
-use Rattle.literals.proofs.Settling.{flop_left}
+use Rattle.literals.proofs.Settling.{leaves_flop}
 use Rattle.literals.proofs.flop_out.Goals as goal
 
 pub returns : goal.returns
-returns c = search flop_left
+returns c = search leaves_flop
