@@ -1,12 +1,12 @@
 -- Steps one after another, and the state that each leaves to the next.
-use mathlib.Core.Path.{◌≡◌, refl, sym, ap, subst, ◌∙◌}
-use mathlib.Core.Bool.{true, false}
+use mathlib.Core.Path.{◌≡◌, refl, sym, subst, ◌∙◌}
 use mathlib.Core.List.{List}
 use Prim.Native.Nat.{ℕ, ◌+◌, ◌*◌, ◌<◌, ◌≤◌}
 use native.Mathlib.Omega.{arith}
 use lib.ListN.{length}
 use Rattle.laws.specs.Words.{SameBelow}
-use Rattle.laws.proofs.Tests.{true≢false}
+use Rattle.std.specs.Prelude.{Option, Some, None}
+use Rattle.rules.specs.declared.Driver.{Driver}
 use Rattle.rules.specs.declared.Edge.{Edge}
 use Rattle.rules.specs.declared.Edge.TheVariants.{Rising, Falling}
 use Rattle.rules.specs.declared.Literal.{Literal}
@@ -15,66 +15,43 @@ use Rattle.rules.specs.Netlist.{Netlist, size, cells}
 use Rattle.rules.specs.Graph.{Made}
 use Rattle.rules.specs.Tables.{edge_word}
 use Rattle.rules.specs.Build.{step2}
+use Rattle.rules.proofs.Tables.{clash}
 use Rattle.builds.proofs.Growing.{Keeps, keeps_trans}
 use Rattle.roles.specs.Reading.{Fits}
 use Rattle.roles.proofs.Fitting.{laid}
 use Rattle.drafts.specs.declared.Added.{Added}
-use Rattle.drafts.specs.Table.{Table, drafted, SameEnds, Extends, made}
+use Rattle.drafts.specs.Table.{Table, drafted, Extends, made}
 use Rattle.drafts.specs.Table as table
 use Rattle.drafts.specs.Layout.{start_of}
-use Rattle.drafts.proofs.Steps.{below_refl, below_trans, ends_refl, ends_trans}
+use Rattle.drafts.proofs.Steps.{below_refl, below_trans, ends_refl, ends_trans, Extended}
 use Rattle.activity.specs.Traced.{Ground, Going, start_at}
 
 -- nothing is made
-pub nothing_made : (at : ℕ) (w ws : List ℕ) (t : Tally) (l : Literal) → Table at w ws t → Extends at (start_at (drafted ws t) l.word) w ws t w ws (record { fits = true; lit = l; tally = t })
-nothing_made at w ws t l h = made refl refl h refl (ends_refl t) (below_refl at w) refl
+pub nothing_made : (at : ℕ) (w ws : List ℕ) (t : Tally) (l : Literal) → Table at w ws t → Extends at (start_at (drafted ws t) l.word) w ws t w ws (Some (record { lit = l; tally = t }))
+nothing_made at w ws t l h = made (record { lit = l; tally = t }) refl refl h refl (ends_refl t) (below_refl at w) refl
 
 -- ---- what a step leaves
-module _ (at : ℕ) (m : Made) (w ws : List ℕ) (t : Tally) (w₁ ws₁ : List ℕ) (one : Added) where
-  pub step_drivers : Extends at m w ws t w₁ ws₁ one → one.fits ≡ true → drafted ws₁ one.tally ≡ m.drivers
-  step_drivers (made a b c d g i j) e = d
-  step_drivers (table.full a b c d) e = true≢false one.fits e a
+module _ (at : ℕ) (m : Made) (w ws : List ℕ) (t : Tally) (w₁ ws₁ : List ℕ) where
+  pub step_long : (r : Option Added) → Extends at m w ws t w₁ ws₁ r → (length w₁ ≡ length w) × (length ws₁ ≡ length ws)
+  step_long r (made a e b c d g i j) = (i.long, j)
+  step_long r (table.full a b c d) = (c, d)
 
-  pub step_lit : Extends at m w ws t w₁ ws₁ one → one.fits ≡ true → one.lit.word ≡ m.lit
-  step_lit (made a b c d g i j) e = b
-  step_lit (table.full a b c d) e = true≢false one.fits e a
+  pub step_short : Extends at m w ws t w₁ ws₁ None → length ws < 3 * length m.drivers
+  step_short (made a e b c d g i j) = let z : None ≡ Some a = e in clash (cc)
+  step_short (table.full a b c d) = b
 
-  pub step_below : Extends at m w ws t w₁ ws₁ one → one.fits ≡ true → SameBelow at w w₁
-  step_below (made a b c d g i j) e = i
-  step_below (table.full a b c d) e = true≢false one.fits e a
+  pub extends : (one : Added) → Extended at m w ws t w₁ ws₁ one → Extends at m w ws t w₁ ws₁ (Some one)
+  extends one l = made one refl l.lit l.table l.drivers l.ends l.below l.long
 
-  pub step_ready : Extends at m w ws t w₁ ws₁ one → one.fits ≡ true → Table at w₁ ws₁ one.tally
-  step_ready (made a b c d g i j) e = c
-  step_ready (table.full a b c d) e = true≢false one.fits e a
+  -- another step begins where this one ends
+  pub goes_on : (one : Added) → Extended at m w ws t w₁ ws₁ one → (m' : Made) (w₂ ws₂ : List ℕ) (r : Option Added) → Extends at m' w₁ ws₁ one.tally w₂ ws₂ r → Extends at m' w ws t w₂ ws₂ r
+  goes_on one l m' w₂ ws₂ r (made a e b c d g i j) = made a e b c d (ends_trans l.ends g) (below_trans l.below i) (j ∙ l.long)
+  goes_on one l m' w₂ ws₂ r (table.full a b c d) = table.full a (omega (arith, b, l.long)) (c ∙ l.below.long) (d ∙ l.long)
 
-  pub step_ends : Extends at m w ws t w₁ ws₁ one → one.fits ≡ true → SameEnds t one.tally
-  step_ends (made a b c d g i j) e = g
-  step_ends (table.full a b c d) e = true≢false one.fits e a
-
-  pub step_long : Extends at m w ws t w₁ ws₁ one → (length w₁ ≡ length w) × (length ws₁ ≡ length ws)
-  step_long (made a b c d g i j) = (i.long, j)
-  step_long (table.full a b c d) = (c, d)
-
-  pub step_short : Extends at m w ws t w₁ ws₁ one → one.fits ≡ false → length ws < 3 * length m.drivers
-  step_short (made a b c d g i j) e = true≢false one.fits a e
-  step_short (table.full a b c d) e = b
-
-  -- the same answer, told anew
-  pub step_as : Extends at m w ws t w₁ ws₁ one → (r : Added) → r.fits ≡ one.fits → r.lit ≡ one.lit → r.tally ≡ one.tally → Extends at m w ws t w₁ ws₁ r
-  step_as (made a b c d g i j) r e f h =
-      made (e ∙ a) (ap (λ (l : Literal). l.word) f ∙ b) (subst (Table at w₁ ws₁) (sym h) c) (subst (λ (x : Tally). drafted ws₁ x ≡ m.drivers) (sym h) d) (subst (SameEnds t) (sym h) g) i j
-  step_as (table.full a b c d) r e f h = table.full (e ∙ a) b c d
-
-  -- another step begins where this one ends; or this one ends it all
-  module _ (m' : Made) where
-    pub goes_on : Extends at m w ws t w₁ ws₁ one → one.fits ≡ true → (w₂ ws₂ : List ℕ) (two : Added) → Extends at m' w₁ ws₁ one.tally w₂ ws₂ two → Extends at m' w ws t w₂ ws₂ two
-    goes_on (made a b c d g i j) e w₂ ws₂ two (made a' b' c' d' g' i' j') = made a' b' c' d' (ends_trans g g') (below_trans i i') (j' ∙ j)
-    goes_on (made a b c d g i j) e w₂ ws₂ two (table.full a' b' c' d') = table.full a' (omega (arith, b', j)) (c' ∙ i.long) (d' ∙ j)
-    goes_on (table.full a b c d) e w₂ ws₂ two s = true≢false one.fits e a
-
-    pub stops : Extends at m w ws t w₁ ws₁ one → one.fits ≡ false → length m.drivers ≤ length m'.drivers → (r : Added) → r.fits ≡ false → Extends at m' w ws t w₁ ws₁ r
-    stops (made a b c d g i j) e l r f = true≢false one.fits a e
-    stops (table.full a b c d) e l r f = table.full f (omega (arith, b, l)) c d
+  -- of what is made of the drivers that this one leaves
+  pub onward : (one : Added) → Extended at m w ws t w₁ ws₁ one → (f : List Driver → Made) (w₂ ws₂ : List ℕ) (r : Option Added)
+      → Extends at (f (drafted ws₁ one.tally)) w₁ ws₁ one.tally w₂ ws₂ r → Extends at (f m.drivers) w ws t w₂ ws₂ r
+  onward one l f w₂ ws₂ r s = goes_on one l (f m.drivers) w₂ ws₂ r (subst (λ (ds : List Driver). Extends at (f ds) w₁ ws₁ one.tally w₂ ws₂ r) l.drivers s)
 
 -- ---- the state as step 3 goes on
 edge_low : (e : Edge) → edge_word e ≤ 1
@@ -101,9 +78,9 @@ module _ (n : Netlist) (at : ℕ) (w : List ℕ) (g : Ground n at w) where
   }
 
 pub going_after : (n : Netlist) (at : ℕ) (m : Made) (w ws : List ℕ) (t : Tally) (w₁ ws₁ : List ℕ) (one : Added) → Going n at w ws t
-    → Extends at m w ws t w₁ ws₁ one → one.fits ≡ true → Keeps (drafted ws t) m.drivers → Going n at w₁ ws₁ one.tally
-going_after n at m w ws t w₁ ws₁ one g s e k = record {
-  grounded = ground_after n at w g.grounded w₁ (step_below at m w ws t w₁ ws₁ one s e);
-  table = step_ready at m w ws t w₁ ws₁ one s e;
-  keeps = subst (Keeps (step2 n).drivers) (sym (step_drivers at m w ws t w₁ ws₁ one s e)) (keeps_trans g.keeps k);
+    → Extended at m w ws t w₁ ws₁ one → Keeps (drafted ws t) m.drivers → Going n at w₁ ws₁ one.tally
+going_after n at m w ws t w₁ ws₁ one g s k = record {
+  grounded = ground_after n at w g.grounded w₁ s.below;
+  table = s.table;
+  keeps = subst (Keeps (step2 n).drivers) (sym s.drivers) (keeps_trans g.keeps k);
 }

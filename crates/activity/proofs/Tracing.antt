@@ -8,7 +8,7 @@ use native.Mathlib.Omega.{arith}
 use lib.ListN.{length, get_or, take, drop}
 use lib.Seq.{take_all}
 use borrow.Author.Tests.{lt-ltb, eqb-true}
-use Rattle.std.specs.Prelude.{if◌then◌else◌, ◌==◌}
+use Rattle.std.specs.Prelude.{Option, Some, None, if◌then◌else◌, ◌==◌}
 use Rattle.laws.specs.Lists.{count}
 use Rattle.laws.proofs.Tests.{true≢false}
 use Rattle.laws.proofs.Bags.{here, there, keep_sub}
@@ -30,9 +30,7 @@ use Rattle.builds.proofs.Ands.{and_keeps, known_stays}
 use Rattle.builds.proofs.Sizes.{Flagged, acts_longer, step1_flags, flagged_none}
 use Rattle.builds.proofs.Walks.{walk_found, walk_ind}
 use Rattle.drivers.proofs.Rows.{drivers_long_lem}
-use Rattle.roles.specs.declared.Entry.{Entry}
-use Rattle.roles.specs.declared.Entry.TheVariants.{Pin, Absent}
-use Rattle.roles.specs.Reading.{tables, has_name, either_in, cell_pins, entry_of, kind_at}
+use Rattle.roles.specs.Reading.{has_name, either_in, cell_pins, entry_of, kind_at}
 use Rattle.clocks.specs.declared.WalkEnd.{WalkEnd}
 use Rattle.clocks.specs.declared.WalkEnd.TheVariants.{Root}
 use Rattle.clocks.specs.declared.Walked.{Walked}
@@ -41,7 +39,8 @@ use Rattle.drafts.specs.declared.Added.{Added}
 use Rattle.drafts.specs.Table.{Table, drafted, Extends}
 use Rattle.drafts.specs.Layout.{flag_word}
 use Rattle.activity.specs.Traced.{lits, Going, Clocked, end_lit, EndKnown, gates_over, start_at, entry_traced}
-use Rattle.activity.proofs.Composing.{nothing_made, step_drivers, step_lit, step_as, goes_on, stops, going_after}
+use Rattle.drafts.proofs.Steps.{Extended, extended, longer_full}
+use Rattle.activity.proofs.Composing.{nothing_made, goes_on, going_after}
 
 -- ---- where a walk ends
 module _ (m : ℕ) (w : List ℕ) (end : WalkEnd) where
@@ -86,25 +85,22 @@ module _ (n : Netlist) (acc : Accepted n) where
   enables_inside far k i l = absurd (omega arith)
 
 -- the E pin at a place, and its literal
-module _ (kinds starts list pins nets : List ℕ) (p i : ℕ) (at : ℕ) (w ws : List ℕ) (t : Tally) (walked : Walked)
-    (g : Going (tables kinds starts list pins nets) at w ws t)
-    (k : Clocked (tables kinds starts list pins nets) p)
-    (l : i < length (enables (walk (tables kinds starts list pins nets) p)))
-    (e : walked ≡ told (walk (tables kinds starts list pins nets) p) i) where
-  abbrev n : Netlist
-  n = tables kinds starts list pins nets
-
+module _ (n : Netlist) (p i : ℕ) (at : ℕ) (w ws : List ℕ) (t : Tally) (walked : Walked)
+    (g : Going n at w ws t)
+    (k : Clocked n p)
+    (l : i < length (enables (walk n p)))
+    (e : walked ≡ told (walk n p) i) where
   which : walked.enable ≡ get_or (enables (walk n p)) i 0
   which = ap (λ (x : Walked). x.enable) e
 
-  inside : walked.enable < length list
+  inside : walked.enable < length n.list
   inside = subst (λ (x : ℕ). x < size n) (sym which) (enables_inside n g.grounded.accepted (walk n p) (all_inside n g.grounded.accepted p k.inside k.found) i l)
 
-  pub enable_place : 7 * length list + walked.enable < length w
+  pub enable_place : 7 * length n.list + walked.enable < length w
   enable_place = omega (arith, inside, g.grounded.below, g.grounded.inside)
 
-  pub enable_told : (lit : Literal) (w' ws' : List ℕ) (r : Added) → Extends at (and_of (drafted ws t) lit.word (get_or w (7 * length list + walked.enable) 0)) w ws t w' ws' r
-      → Extends at (and_of (drafted ws t) lit.word (lits (tables kinds starts list pins nets) (get_or (enables (walk (tables kinds starts list pins nets) p)) i 0))) w ws t w' ws' r
+  pub enable_told : (lit : Literal) (w' ws' : List ℕ) (r : Option Added) → Extends at (and_of (drafted ws t) lit.word (get_or w (7 * length n.list + walked.enable) 0)) w ws t w' ws' r
+      → Extends at (and_of (drafted ws t) lit.word (lits n (get_or (enables (walk n p)) i 0))) w ws t w' ws' r
   enable_told lit w' ws' r s = subst (λ (x : ℕ). Extends at (and_of (drafted ws t) lit.word x) w ws t w' ws' r)
       (g.grounded.written.lits walked.enable inside ∙ ap (lits n) which) s
 
@@ -126,17 +122,11 @@ gates_longer l es i m = subst (λ (x : Made). length (gates_over l m (take i es)
 
 pub record Passing (n : Netlist) (p at : ℕ) (w₀ ws₀ : List ℕ) (t₀ : Tally) (l₀ : ℕ) (w ws : List ℕ) (i : ℕ) (step : Added) : Type 0 where
   pub inside : i ≤ length (enables (walk n p))
-  pub steps : Extends at (gates_over (lits n) (start_at (drafted ws₀ t₀) l₀) (take i (enables (walk n p)))) w₀ ws₀ t₀ w ws step
-  pub fits : step.fits ≡ true
+  pub steps : Extends at (gates_over (lits n) (start_at (drafted ws₀ t₀) l₀) (take i (enables (walk n p)))) w₀ ws₀ t₀ w ws (Some step)
   pub going : Going n at w ws step.tally
 
-pub passing_begins : (n : Netlist) (p at : ℕ) (w ws : List ℕ) (so : Added) → Going n at w ws so.tally → so.fits ≡ true → Passing n p at w ws so.tally so.lit.word w ws 0 so
-passing_begins n p at w ws so g e = record {
-  inside = omega arith;
-  steps = step_as at (start_at (drafted ws so.tally) so.lit.word) w ws so.tally w ws (record { fits = true; lit = so.lit; tally = so.tally }) (nothing_made at w ws so.tally so.lit g.table) so e refl refl;
-  fits = e;
-  going = g;
-}
+pub passing_begins : (n : Netlist) (p at : ℕ) (w ws : List ℕ) (so : Added) → Going n at w ws so.tally → Passing n p at w ws so.tally so.lit.word w ws 0 so
+passing_begins n p at w ws so g = record { inside = omega arith; steps = nothing_made at w ws so.tally so.lit g.table; going = g }
 
 module _ (n : Netlist) (p at : ℕ) (w₀ ws₀ : List ℕ) (t₀ : Tally) (l₀ : ℕ) (w ws : List ℕ) (i : ℕ) (so : Added) (h : Passing n p at w₀ ws₀ t₀ l₀ w ws i so)
     (gates : ℕ) (eg : gates ≡ length (enables (walk n p))) where
@@ -149,36 +139,38 @@ module _ (n : Netlist) (p at : ℕ) (w₀ ws₀ : List ℕ) (t₀ : Tally) (l₀
   pub passing_next : i < gates → i < length (enables (walk n p))
   passing_next l = omega (arith, eg, l)
 
-  pub passing_ends : gates ≤ i → Extends at (gates_over (lits n) (start_at (drafted ws₀ t₀) l₀) (enables (walk n p))) w₀ ws₀ t₀ w ws so
-  passing_ends l = subst (λ (x : List ℕ). Extends at (gates_over (lits n) (start_at (drafted ws₀ t₀) l₀) x) w₀ ws₀ t₀ w ws so) (take_all i es (omega (arith, eg, l))) h.steps
+  pub passing_ends : gates ≤ i → Extends at (gates_over (lits n) (start_at (drafted ws₀ t₀) l₀) (enables (walk n p))) w₀ ws₀ t₀ w ws (Some so)
+  passing_ends l = subst (λ (x : List ℕ). Extends at (gates_over (lits n) (start_at (drafted ws₀ t₀) l₀) x) w₀ ws₀ t₀ w ws (Some so)) (take_all i es (omega (arith, eg, l))) h.steps
 
-  module _ (w' ws' : List ℕ) (step : Added) (lg : i < gates)
-      (s : Extends at (and_of (drafted ws so.tally) so.lit.word (lits n (get_or (enables (walk n p)) i 0))) w ws so.tally w' ws' step) where
+  module _ (w' ws' : List ℕ) (lg : i < gates) where
     l : i < length (enables (walk n p))
     l = omega (arith, eg, lg)
 
     abbrev here_made : Made
     here_made = and_of (drafted ws so.tally) so.lit.word (lits n (get_or es i 0))
 
+    before : Extended at (up_to i) w₀ ws₀ t₀ w ws so
+    before = extended at (up_to i) w₀ ws₀ t₀ w ws so h.steps
+
     here_is : here_made ≡ up_to (i + 1)
-    here_is = ap₂ (λ (ds : List Driver) (x : ℕ). and_of ds x (lits n (get_or es i 0)))
-        (step_drivers at (up_to i) w₀ ws₀ t₀ w ws so h.steps h.fits) (step_lit at (up_to i) w₀ ws₀ t₀ w ws so h.steps h.fits)
+    here_is = ap₂ (λ (ds : List Driver) (x : ℕ). and_of ds x (lits n (get_or es i 0))) before.drivers before.lit
         ∙ sym (over-take (λ k e. and_of k.drivers k.lit (lits n e)) (start_at (drafted ws₀ t₀) l₀) es i 0 l) ∙ ap up_to (sym (add-one i))
 
-    onward : Extends at (up_to (i + 1)) w₀ ws₀ t₀ w' ws' step
-    onward = goes_on at (up_to i) w₀ ws₀ t₀ w ws so (up_to (i + 1)) h.steps h.fits w' ws' step (subst (λ (m : Made). Extends at m w ws so.tally w' ws' step) here_is s)
+    onward : (r : Option Added) → Extends at (and_of (drafted ws so.tally) so.lit.word (lits n (get_or (enables (walk n p)) i 0))) w ws so.tally w' ws' r → Extends at (up_to (i + 1)) w₀ ws₀ t₀ w' ws' r
+    onward r s = goes_on at (up_to i) w₀ ws₀ t₀ w ws so before (up_to (i + 1)) w' ws' r (subst (λ (m : Made). Extends at m w ws so.tally w' ws' r) here_is s)
 
-    pub passing_goes_on : step.fits ≡ true → Passing n p at w₀ ws₀ t₀ l₀ w' ws' (i + 1) step
-    passing_goes_on e = record {
+    pub passing_goes_on : (step : Added) → Extends at (and_of (drafted ws so.tally) so.lit.word (lits n (get_or (enables (walk n p)) i 0))) w ws so.tally w' ws' (Some step)
+        → Passing n p at w₀ ws₀ t₀ l₀ w' ws' (i + 1) step
+    passing_goes_on step s = record {
       inside = omega (arith, l);
-      steps = onward;
-      fits = e;
-      going = going_after n at here_made w ws so.tally w' ws' step h.going s e (and_keeps (drafted ws so.tally) so.lit.word (lits n (get_or es i 0)));
+      steps = onward (Some step) s;
+      going = going_after n at here_made w ws so.tally w' ws' step h.going (extended at here_made w ws so.tally w' ws' step s) (and_keeps (drafted ws so.tally) so.lit.word (lits n (get_or es i 0)));
     }
 
-    pub passing_fails : step.fits ≡ false → Extends at (gates_over (lits n) (start_at (drafted ws₀ t₀) l₀) (enables (walk n p))) w₀ ws₀ t₀ w' ws' step
-    passing_fails e = stops at (up_to (i + 1)) w₀ ws₀ t₀ w' ws' step (gates_over (lits n) (start_at (drafted ws₀ t₀) l₀) es) onward e
-        (gates_longer (lits n) es (i + 1) (start_at (drafted ws₀ t₀) l₀)) step e
+    pub passing_fails : Extends at (and_of (drafted ws so.tally) so.lit.word (lits n (get_or (enables (walk n p)) i 0))) w ws so.tally w' ws' None
+        → Extends at (gates_over (lits n) (start_at (drafted ws₀ t₀) l₀) (enables (walk n p))) w₀ ws₀ t₀ w' ws' None
+    passing_fails s = longer_full at (up_to (i + 1)) w₀ ws₀ t₀ w' ws' (gates_over (lits n) (start_at (drafted ws₀ t₀) l₀) es)
+        (gates_longer (lits n) es (i + 1) (start_at (drafted ws₀ t₀) l₀)) (onward None s)
 
 -- ---- the whole walk
 -- what the end of a walk makes
@@ -250,32 +242,29 @@ module _ (n : Netlist) (at : ℕ) (w ws : List ℕ) (t : Tally) (g : Going n at 
     end_is strange i f = refl
     end_is far i f = refl
 
-module _ (kinds starts list pins nets : List ℕ) (p at : ℕ) (w ws : List ℕ) (t : Tally) (walked : Walked)
-    (g : Going (tables kinds starts list pins nets) at w ws t)
-    (k : Clocked (tables kinds starts list pins nets) p)
-    (e : walked ≡ told (walk (tables kinds starts list pins nets) p) 0) where
-  abbrev o : Netlist
-  o = tables kinds starts list pins nets
+module _ (n : Netlist) (p at : ℕ) (w ws : List ℕ) (t : Tally) (walked : Walked)
+    (g : Going n at w ws t)
+    (k : Clocked n p)
+    (e : walked ≡ told (walk n p) 0) where
+  within : Inside n g.grounded.accepted (walk n p)
+  within = all_inside n g.grounded.accepted p k.inside k.found
 
-  within : Inside o g.grounded.accepted (walk o p)
-  within = all_inside o g.grounded.accepted p k.inside k.found
+  pub end_known : EndKnown (length n.list) w walked.end
+  end_known = subst (EndKnown (length n.list) w) (sym (ap (λ (x : Walked). x.end) e)) (known n at w ws t g p k (walk n p) within k.flagged)
 
-  pub end_known : EndKnown (length list) w walked.end
-  end_known = subst (EndKnown (length list) w) (sym (ap (λ (x : Walked). x.end) e)) (known o at w ws t g p k (walk o p) within k.flagged)
-
-  pub gates_told : walked.gates ≡ length (enables (walk (tables kinds starts list pins nets) p))
+  pub gates_told : walked.gates ≡ length (enables (walk n p))
   gates_told = ap (λ (x : Walked). x.gates) e
 
-  pub activity_told : (lit : Literal) → lit.word ≡ end_lit (length list) w walked.end → (w' ws' : List ℕ) (r : Added)
-      → Extends at (gates_over (lits (tables kinds starts list pins nets)) (start_at (drafted ws t) lit.word) (enables (walk (tables kinds starts list pins nets) p))) w ws t w' ws' r
-      → Extends at (trace (drafted ws t) (lits (tables kinds starts list pins nets)) (walk (tables kinds starts list pins nets) p)) w ws t w' ws' r
+  pub activity_told : (lit : Literal) → lit.word ≡ end_lit (length n.list) w walked.end → (w' ws' : List ℕ) (r : Option Added)
+      → Extends at (gates_over (lits n) (start_at (drafted ws t) lit.word) (enables (walk n p))) w ws t w' ws' r
+      → Extends at (trace (drafted ws t) (lits n) (walk n p)) w ws t w' ws' r
   activity_told lit el w' ws' r s = subst (λ (m : Made). Extends at m w ws t w' ws' r)
-      (ap (λ (x : ℕ). gates_over (lits o) (start_at (drafted ws t) x) (enables (walk o p))) (el ∙ ap (λ (x : Walked). end_lit (length list) w x.end) e)
-      ∙ sym (ap (λ (m : Made). gates_over (lits o) m (enables (walk o p))) (end_is o at w ws t g p k (walk o p) within k.flagged))
-      ∙ sym (trace-over (lits o) (drafted ws t) (walk o p))) s
+      (ap (λ (x : ℕ). gates_over (lits n) (start_at (drafted ws t) x) (enables (walk n p))) (el ∙ ap (λ (x : Walked). end_lit (length n.list) w x.end) e)
+      ∙ sym (ap (λ (m : Made). gates_over (lits n) m (enables (walk n p))) (end_is n at w ws t g p k (walk n p) within k.flagged))
+      ∙ sym (trace-over (lits n) (drafted ws t) (walk n p))) s
 
 -- ---- the clocks of a cell
-entry_in : (l : List ℕ) (k p : ℕ) → entry_of l k ≡ Pin p → 0 < count p l
+pub entry_in : (l : List ℕ) (k p : ℕ) → entry_of l k ≡ Some p → 0 < count p l
 unfolding entry_of
 entry_in [] k p e = clash (cc)
 entry_in (x ∷ l) zero p e = let q : p ≡ x = cc in subst (λ (y : ℕ). 0 < count y (x ∷ l)) (sym q) (here x l)
@@ -288,29 +277,26 @@ clock_pin n acc c p l m = record {
   flagged = step1_flags n c p l m (step1 n) (keeps_refl (step1 n));
 }
 
-module _ (kinds starts list pins nets : List ℕ) (at : ℕ) (w ws : List ℕ) (t : Tally) (c a b k : ℕ) (found : Entry)
-    (h : found ≡ entry_of (either_in pins a b (cell_pins starts list c)) k) where
-  abbrev v : Netlist
-  v = tables kinds starts list pins nets
-
-  pub entry_clocked : Going (tables kinds starts list pins nets) at w ws t → c < length kinds → is_clock (kind_at (get_or kinds c 0)) a ≡ true → is_clock (kind_at (get_or kinds c 0)) b ≡ true
-      → (p : ℕ) → found ≡ Pin p → Clocked (tables kinds starts list pins nets) p
-  entry_clocked g l ia ib p e = clock_pin v g.grounded.accepted c p l
-      (keep_sub (has_name pins a b) (λ q. is_clock (kind_of v c) (name_of v q)) p (pins_of v c) is (entry_in (either_in pins a b (cell_pins starts list c)) k p (sym h ∙ e)))
+module _ (n : Netlist) (at : ℕ) (w ws : List ℕ) (t : Tally) (c a b k : ℕ) (found : Option ℕ)
+    (h : found ≡ entry_of (either_in n.pins a b (cell_pins n.starts n.list c)) k) where
+  pub entry_clocked : Going n at w ws t → c < length n.kinds → is_clock (kind_at (get_or n.kinds c 0)) a ≡ true → is_clock (kind_at (get_or n.kinds c 0)) b ≡ true
+      → (p : ℕ) → found ≡ Some p → Clocked n p
+  entry_clocked g l ia ib p e = clock_pin n g.grounded.accepted c p l
+      (keep_sub (has_name n.pins a b) (λ q. is_clock (kind_of n c) (name_of n q)) p (pins_of n c) is (entry_in (either_in n.pins a b (cell_pins n.starts n.list c)) k p (sym h ∙ e)))
     where
-      by : (q : ℕ) (x : Bool) → (get_or pins (5 * q + 1) 0 == a) ≡ x → has_name pins a b q ≡ true → is_clock (kind_of v c) (name_of v q) ≡ true
-      by q true ex t' = subst (λ (m : ℕ). is_clock (kind_of v c) m ≡ true) (sym (eqb-true (get_or pins (5 * q + 1) 0) a ex)) ia
-      by q false ex t' = subst (λ (m : ℕ). is_clock (kind_of v c) m ≡ true) (sym (eqb-true (get_or pins (5 * q + 1) 0) b (rw ex at t'))) ib
+      by : (q : ℕ) (x : Bool) → (get_or n.pins (5 * q + 1) 0 == a) ≡ x → has_name n.pins a b q ≡ true → is_clock (kind_of n c) (name_of n q) ≡ true
+      by q true ex t' = subst (λ (m : ℕ). is_clock (kind_of n c) m ≡ true) (sym (eqb-true (get_or n.pins (5 * q + 1) 0) a ex)) ia
+      by q false ex t' = subst (λ (m : ℕ). is_clock (kind_of n c) m ≡ true) (sym (eqb-true (get_or n.pins (5 * q + 1) 0) b (rw ex at t'))) ib
 
-      is : (q : ℕ) → has_name pins a b q ≡ true → is_clock (kind_of v c) (name_of v q) ≡ true
-      is q t' = by q (get_or pins (5 * q + 1) 0 == a) refl t'
+      is : (q : ℕ) → has_name n.pins a b q ≡ true → is_clock (kind_of n c) (name_of n q) ≡ true
+      is q t' = by q (get_or n.pins (5 * q + 1) 0 == a) refl t'
 
-  pub entry_traced_lem : (p : ℕ) → found ≡ Pin p → (w' ws' : List ℕ) (r : Added)
-      → Extends at (trace (drafted ws t) (lits (tables kinds starts list pins nets)) (walk (tables kinds starts list pins nets) p)) w ws t w' ws' r
-      → Extends at (entry_traced (tables kinds starts list pins nets) (drafted ws t) (entry_of (either_in pins a b (cell_pins starts list c)) k)) w ws t w' ws' r
-  entry_traced_lem p e w' ws' r s = subst (λ (x : Entry). Extends at (entry_traced v (drafted ws t) x) w ws t w' ws' r) (sym e ∙ h) s
+  pub entry_traced_lem : (p : ℕ) → found ≡ Some p → (w' ws' : List ℕ) (r : Option Added)
+      → Extends at (trace (drafted ws t) (lits n) (walk n p)) w ws t w' ws' r
+      → Extends at (entry_traced n (drafted ws t) (entry_of (either_in n.pins a b (cell_pins n.starts n.list c)) k)) w ws t w' ws' r
+  entry_traced_lem p e w' ws' r s = subst (λ (x : Option ℕ). Extends at (entry_traced n (drafted ws t) x) w ws t w' ws' r) (sym e ∙ h) s
 
-  pub entry_absent : found ≡ Absent → Table at w ws t
-      → Extends at (entry_traced (tables kinds starts list pins nets) (drafted ws t) (entry_of (either_in pins a b (cell_pins starts list c)) k)) w ws t w ws (record { fits = true; lit = record { word = 0 }; tally = t })
-  entry_absent e g = subst (λ (x : Entry). Extends at (entry_traced v (drafted ws t) x) w ws t w ws (record { fits = true; lit = record { word = 0 }; tally = t })) (sym e ∙ h)
+  pub entry_absent : found ≡ None → Table at w ws t
+      → Extends at (entry_traced n (drafted ws t) (entry_of (either_in n.pins a b (cell_pins n.starts n.list c)) k)) w ws t w ws (Some (record { lit = record { word = 0 }; tally = t }))
+  entry_absent e g = subst (λ (x : Option ℕ). Extends at (entry_traced n (drafted ws t) x) w ws t w ws (Some (record { lit = record { word = 0 }; tally = t }))) (sym e ∙ h)
       (nothing_made at w ws t (record { word = 0 }) g)

@@ -1,5 +1,5 @@
 -- The state of building as step 3 goes on, and what is made when a clock pin is traced.
-use Rattle.std.specs.Prelude.{◌≡◌, List, ℕ, ◌+◌, ◌*◌, ◌<◌, ◌≤◌, length, get_or}
+use Rattle.std.specs.Prelude.{◌≡◌, Option, Some, None, List, ℕ, ◌+◌, ◌*◌, ◌<◌, ◌≤◌, length, get_or}
 use Rattle.laws.specs.Lists.{over}
 use Rattle.rules.specs.declared.Driver.{Driver}
 use Rattle.rules.specs.declared.Tally.{Tally}
@@ -10,8 +10,6 @@ use Rattle.rules.specs.Build.{walk, trace, step1, step2}
 use Rattle.rules.specs.Refusals.{walk_number, Accepted}
 use Rattle.builds.proofs.Growing.{Keeps}
 use Rattle.builds.proofs.Sizes.{Flagged}
-use Rattle.roles.specs.declared.Entry.{Entry}
-use Rattle.roles.specs.declared.Entry.TheVariants.{Pin, Absent}
 use Rattle.roles.specs.Reading.{Fits}
 use Rattle.clocks.specs.Walks.{enables}
 use Rattle.clocks.specs.declared.WalkEnd.{WalkEnd}
@@ -70,6 +68,6 @@ abbrev pub start_at : List Driver → ℕ → Made
 start_at ds l = record { drivers = ds; lit = l }
 
 -- ---- an entry of a cell's list of clocks; where there is none the activity is 0
-abbrev pub entry_traced : Netlist → List Driver → Entry → Made
-entry_traced n ds (Pin p) = trace ds (lits n) (walk n p)
-entry_traced n ds Absent = start_at ds 0
+abbrev pub entry_traced : Netlist → List Driver → Option ℕ → Made
+entry_traced n ds (Some p) = trace ds (lits n) (walk n p)
+entry_traced n ds None = start_at ds 0

@@ -1,12 +1,12 @@
 -- A split of a graph that was checked: its refusals, and what it leaves in the tables.
-use Rattle.std.specs.Prelude.{Some}
+use Rattle.std.specs.Prelude.{Some, Ok, Err}
 use mathlib.Core.Path.{◌≡◌, sym, ap, subst, ◌∙◌}
 use mathlib.Core.Logic.{inl, inr}
 use mathlib.Core.Bool.{Bool, true, false, ◌&&◌}
 use mathlib.Core.List.{List, ◌++◌}
 use Prim.Native.Nat.{ℕ, suc, ◌+◌, ◌*◌, ◌<◌, ◌≤◌}
 use native.Mathlib.Omega.{arith}
-use lib.ListN.{length}
+use lib.ListN.{length, get_or}
 use borrow.Author.Tests.{le-leb, lt-leb, lt-ltb, ltb-true, le-ltb}
 use Rattle.laws.specs.Tests.{◌<?◌, ◌≤?◌, refuse}
 use Rattle.laws.specs.Lists.{count}
@@ -15,17 +15,18 @@ use Rattle.laws.proofs.Tests.{true≢false, and_l, and_r, and-false}
 use Rattle.laws.proofs.Bags.{every_true}
 use Rattle.laws.proofs.Words.{part_none, part_filled, zero_from_zeros}
 use Rattle.rules.specs.declared.GraphCounts.{GraphCounts}
-use Rattle.rules.specs.declared.Parted.TheVariants.{Stage as PartedStage, Refused}
+use Rattle.rules.specs.declared.Refusal.{Refusal}
+use Rattle.rules.specs.declared.Refusal.TheVariants.{Index}
 use Rattle.rules.specs.Tables.{graph_in, held}
 use Rattle.rules.specs.Stages.{Stage, split}
 use Rattle.rules.specs.Refusals.{below, no_repeat, something_read}
-use Rattle.rules.specs.Answers.{endpoints, stage_fits, parted_of}
+use Rattle.rules.specs.Answers.{endpoints, stage_fits, refusals, answer_of, stage_size}
 use Rattle.graphs.specs.Parts.{lent as words_of}
 use Rattle.levels.specs.State.{stops_of}
 use Rattle.picks.specs.Tables.{Open, Pushed}
 use Rattle.splits.specs.declared.Spot.{Spot}
 use Rattle.splits.specs.declared.Piece.{Piece}
-use Rattle.splits.specs.State.{split_in, order_in, Idle, CutOff, made, narrow}
+use Rattle.splits.specs.State.{split_in, order_in, Idle, Cut, Uncut, Unmade, nothing, narrow}
 use Rattle.asked.specs.Answer.{Room, sets, Laid, Begun, begun, no_sets, Parts, late_number, Parted1}
 use Rattle.asked.proofs.Graphs.{stops_members, split_is, nothing_read}
 
@@ -53,9 +54,9 @@ module _ (c : GraphCounts) (ws os ds rs chosen before : List ℕ) (level : ℕ) 
   }
 
   refused_by : (k : ℕ) → late_number c (words_of ws os ds rs) chosen before level (length h) (length t) ≡ suc k → (h' t' : List ℕ) → h' ≡ zeros (length h) → t' ≡ zeros (length t)
-      → Parted1 c ws os ds rs chosen before level h t h' t' (Refused (suc k))
+      → Parted1 c ws os ds rs chosen before level h t h' t' (Err (get_or refusals k Index))
   refused_by k e h' t' eh et = record {
-    answer = sym (ap (λ (x : ℕ). parted_of x S) e);
+    answer = sym (ap (λ (x : ℕ). answer_of x (stage_size S)) e);
     handed = eh ∙ sym (ap (λ (x : ℕ). held x S.handed (length h)) e);
     taken = et ∙ sym (ap (λ (x : ℕ). held x S.taken (length t)) e);
   }
@@ -68,7 +69,7 @@ module _ (c : GraphCounts) (ws os ds rs chosen before : List ℕ) (level : ℕ) 
     is_no (begun a s l e) f = true≢false ok e f
     is_no (no_sets s l e) f = subst (λ (x : ℕ). sets chosen before (c.pins + 1) x ≡ false) ee s
 
-    pub part_15 : ok ≡ false → Parted1 c ws os ds rs chosen before level h t h t (Refused 15)
+    pub part_15 : ok ≡ false → Parted1 c ws os ds rs chosen before level h t h t (Err Index)
     unfolding late_number
     part_15 f = refused_by 14 (rw (is_no b f)) h t P.handed_zero P.taken_zero
 
@@ -107,59 +108,62 @@ module _ (c : GraphCounts) (ws os ds rs chosen before : List ℕ) (level : ℕ) 
       read_is = ap (λ (l : List ℕ). 0 <? length (order_in c ws os ds rs (c.pins + 1) l (stops_of w₁ (c.pins + 1)))) laid.left
           ∙ nothing_read c ws os ds rs chosen (stops_of w₁ (c.pins + 1))
 
-      module _ (w₂ h₂ t₂ : List ℕ) (r : Piece) (q : CutOff c ws os ds rs at w₁ h t w₂ h₂ t₂ r) where
-        lengths : CutOff c ws os ds rs at w₁ h t w₂ h₂ t₂ r → (length h₂ ≡ length h) × (length t₂ ≡ length t)
-            × (r.listed ≡ length (order_in c ws os ds rs (c.pins + 1) (part w₁ (8 * (c.pins + 1)) (length chosen)) (stops_of w₁ (c.pins + 1))))
-        lengths (made a b' u s l f) = (a.long, b'.long, l)
-        lengths (narrow a x y z l f) = (y, z, l)
+      late_14 : something_read (graph_in c (words_of ws os ds rs)) chosen ≡ false → late_number c (words_of ws os ds rs) chosen before level (length h) (length t) ≡ 14
+      unfolding late_number
+      late_14 f = rw ((is_yes b).1, f)
 
-        late_14 : something_read (graph_in c (words_of ws os ds rs)) chosen ≡ false → late_number c (words_of ws os ds rs) chosen before level (length h) (length t) ≡ 14
-        unfolding late_number
-        late_14 f = rw ((is_yes b).1, f)
+      -- where something is read only the room is left to test
+      late_last : 0 < length (order_in c ws os ds rs (c.pins + 1) (part w₁ (8 * (c.pins + 1)) (length chosen)) (stops_of w₁ (c.pins + 1)))
+          → late_number c (words_of ws os ds rs) chosen before level (length h) (length t) ≡ refuse 11 (stage_fits S (length h) (length t))
+      unfolding late_number
+      late_last n =
+          let y : something_read (graph_in c (words_of ws os ds rs)) chosen ≡ true
+          = sym read_is ∙ lt-ltb 0 (length (order_in c ws os ds rs (c.pins + 1) (part w₁ (8 * (c.pins + 1)) (length chosen)) (stops_of w₁ (c.pins + 1)))) n in
+          rw ((is_yes b).1, y)
 
-        pub part_14 : r.listed ≡ 0 → (h₃ t₃ : List ℕ) → h₃ ≡ zeros (length h₂) → t₃ ≡ zeros (length t₂) → Parted1 c ws os ds rs chosen before level h t h₃ t₃ (Refused 14)
-        part_14 z h₃ t₃ eh et = refused_by 13 (late_14 (sym read_is ∙ le-ltb 0 (length (order_in c ws os ds rs (c.pins + 1) (part w₁ (8 * (c.pins + 1)) (length chosen)) (stops_of w₁ (c.pins + 1)))) (omega (arith, (lengths q).2, z)))) h₃ t₃ (eh ∙ ap zeros (lengths q).0) (et ∙ ap zeros (lengths q).1)
+      module _ (w₂ h₂ t₂ : List ℕ) where
+        pub part_refused : (e : Refusal) → Uncut c ws os ds rs at w₁ h t w₂ h₂ t₂ e → (h₃ t₃ : List ℕ) → h₃ ≡ zeros (length h₂) → t₃ ≡ zeros (length t₂)
+            → Parted1 c ws os ds rs chosen before level h t h₃ t₃ (Err e)
+        part_refused e u h₃ t₃ eh et = by_reason u.why
+          where
+            by_number : (k : ℕ) → late_number c (words_of ws os ds rs) chosen before level (length h) (length t) ≡ suc k → e ≡ get_or refusals k Index
+                → Parted1 c ws os ds rs chosen before level h t h₃ t₃ (Err e)
+            by_number k n v = subst (λ (x : Refusal). Parted1 c ws os ds rs chosen before level h t h₃ t₃ (Err x)) (sym v)
+                (refused_by k n h₃ t₃ (eh ∙ ap zeros u.handed_long) (et ∙ ap zeros u.taken_long))
 
-        module _ (n : r.listed ≡ 0 → ⊥) where
-          read_yes : something_read (graph_in c (words_of ws os ds rs)) chosen ≡ true
-          read_yes = sym read_is ∙ lt-ltb 0 (length (order_in c ws os ds rs (c.pins + 1) (part w₁ (8 * (c.pins + 1)) (length chosen)) (stops_of w₁ (c.pins + 1)))) (omega (arith, (lengths q).2, n))
+            by_reason : Unmade c ws os ds rs at w₁ h t e → Parted1 c ws os ds rs chosen before level h t h₃ t₃ (Err e)
+            by_reason (nothing z v) = by_number 13
+                (late_14 (sym read_is ∙ le-ltb 0 (length (order_in c ws os ds rs (c.pins + 1) (part w₁ (8 * (c.pins + 1)) (length chosen)) (stops_of w₁ (c.pins + 1)))) (omega (arith, z)))) v
+            by_reason (narrow n (inl a) v) =
+                let k : length h < length S.handed = subst (λ (s : Stage). length h < length s.handed) stage_is (omega (arith, a)) in
+                by_number 10 (late_last n ∙ rw (lt-leb (length S.handed) (length h) k)) v
+            by_reason (narrow n (inr a) v) =
+                let k : length t < length S.taken = subst (λ (s : Stage). length t < length s.taken) stage_is (omega (arith, a)) in
+                by_number 10 (late_last n ∙ rw (lt-leb (length S.taken) (length t) k, and-false (length S.handed ≤? length h))) v
 
-          late_last : late_number c (words_of ws os ds rs) chosen before level (length h) (length t) ≡ refuse 11 (stage_fits S (length h) (length t))
-          unfolding late_number
-          late_last = rw ((is_yes b).1, read_yes)
+        module _ (p : Piece) (q : Cut c ws os ds rs at w₁ h t w₂ h₂ t₂ p) where
+          ph : Pushed h 0 S.handed h₂ p.handed
+          ph = subst (λ (x : Stage). Pushed h 0 x.handed h₂ p.handed) stage_is q.handed
 
-          narrow_no : CutOff c ws os ds rs at w₁ h t w₂ h₂ t₂ r → r.fits ≡ false → stage_fits S (length h) (length t) ≡ false
-          narrow_no (made a b' u s l e) f = true≢false r.fits e f
-          narrow_no (narrow (inl a) x y z l e) f = let k : length h < length S.handed = subst (λ (s : Stage). length h < length s.handed) stage_is (omega (arith, a)) in
-              rw (lt-leb (length S.handed) (length h) k)
-          narrow_no (narrow (inr a) x y z l e) f = let k : length t < length S.taken = subst (λ (s : Stage). length t < length s.taken) stage_is (omega (arith, a)) in
-              rw (lt-leb (length S.taken) (length t) k) (and-false (length S.handed ≤? length h))
+          pt : Pushed t 0 S.taken t₂ p.taken
+          pt = subst (λ (x : Stage). Pushed t 0 x.taken t₂ p.taken) stage_is q.taken
 
-          pub part_11 : r.fits ≡ false → (h₃ t₃ : List ℕ) → h₃ ≡ zeros (length h₂) → t₃ ≡ zeros (length t₂) → Parted1 c ws os ds rs chosen before level h t h₃ t₃ (Refused 11)
-          part_11 f h₃ t₃ eh et = refused_by 10 (late_last ∙ rw (narrow_no q f)) h₃ t₃ (eh ∙ ap zeros (lengths q).0) (et ∙ ap zeros (lengths q).1)
+          pub part_handed : p.handed ≤ 16777215
+          part_handed = omega (arith, ph.inside, ph.long, P.handed_few)
 
-          module _ (f : r.fits ≡ true) where
-            pushed-both : CutOff c ws os ds rs at w₁ h t w₂ h₂ t₂ r → (Pushed h 0 S.handed h₂ r.handed) × (Pushed t 0 S.taken t₂ r.taken)
-            pushed-both (made a b' u s l e) = (subst (λ (x : Stage). Pushed h 0 x.handed h₂ r.handed) stage_is a, subst (λ (x : Stage). Pushed t 0 x.taken t₂ r.taken) stage_is b')
-            pushed-both (narrow a x y z l e) = true≢false r.fits f e
+          pub part_taken : p.taken ≤ 16777215
+          part_taken = omega (arith, pt.inside, pt.long, P.taken_few)
 
-            pub part_handed : r.handed ≤ 16777215
-            part_handed = let p = (pushed-both q).0 in omega (arith, p.inside, p.long, P.handed_few)
-
-            pub part_taken : r.taken ≤ 16777215
-            part_taken = let p = (pushed-both q).1 in omega (arith, p.inside, p.long, P.taken_few)
-
-            pub part_made : Parted1 c ws os ds rs chosen before level h t h₂ t₂ (PartedStage r.handed r.taken)
-            part_made =
-                let ph = (pushed-both q).0 in
-                let pt = (pushed-both q).1 in
-                let lh : length S.handed ≤ length h = omega (arith, ph.count, ph.inside, ph.long) in
-                let lt : length S.taken ≤ length t = omega (arith, pt.count, pt.inside, pt.long) in
-                let e : late_number c (words_of ws os ds rs) chosen before level (length h) (length t) ≡ 0 = late_last ∙ rw (le-leb (length S.handed) (length h) lh, le-leb (length S.taken) (length t) lt) in
-                let nh : r.handed ≡ length S.handed = omega (arith, ph.count) in
-                let nt : r.taken ≡ length S.taken = omega (arith, pt.count) in
-                record {
-                  answer = (λ i. PartedStage (nh i) (nt i)) ∙ sym (ap (λ (x : ℕ). parted_of x S) e);
-                  handed = filled_by h S.handed h₂ r.handed ph ∙ sym (ap (λ (x : ℕ). held x S.handed (length h)) e);
-                  taken = filled_by t S.taken t₂ r.taken pt ∙ sym (ap (λ (x : ℕ). held x S.taken (length t)) e);
-                }
+          pub part_made : Parted1 c ws os ds rs chosen before level h t h₂ t₂ (Ok (record { handed = p.handed; taken = p.taken }))
+          part_made =
+              let lh : length S.handed ≤ length h = omega (arith, ph.count, ph.inside, ph.long) in
+              let lt : length S.taken ≤ length t = omega (arith, pt.count, pt.inside, pt.long) in
+              let e : late_number c (words_of ws os ds rs) chosen before level (length h) (length t) ≡ 0
+              = late_last (omega (arith, q.listed, q.some)) ∙ rw (le-leb (length S.handed) (length h) lh, le-leb (length S.taken) (length t) lt) in
+              let nh : p.handed ≡ length S.handed = omega (arith, ph.count) in
+              let nt : p.taken ≡ length S.taken = omega (arith, pt.count) in
+              record {
+                answer = (λ i. Ok (record { handed = nh i; taken = nt i })) ∙ sym (ap (λ (x : ℕ). answer_of x (stage_size S)) e);
+                handed = filled_by h S.handed h₂ p.handed ph ∙ sym (ap (λ (x : ℕ). held x S.handed (length h)) e);
+                taken = filled_by t S.taken t₂ p.taken pt ∙ sym (ap (λ (x : ℕ). held x S.taken (length t)) e);
+              }

@@ -1,14 +1,15 @@
 -- What a split asked alone answers and leaves, and the parts of its number as the code tests them.
-use Rattle.std.specs.Prelude.{Some, ◌≡◌, Bool, true, false, ◌&&◌, List, ℕ, ◌+◌, ◌-◌, ◌*◌, ◌<◌, ◌≤◌, length, get_or}
+use Rattle.std.specs.Prelude.{Some, Result, ◌≡◌, Bool, true, false, ◌&&◌, List, ℕ, ◌+◌, ◌-◌, ◌*◌, ◌<◌, ◌≤◌, length, get_or}
 use Rattle.laws.specs.Tests.{◌≤?◌, or_else, refuse}
 use Rattle.laws.specs.Words.{part, zeros}
 use Rattle.rules.specs.declared.GraphCounts.{GraphCounts}
-use Rattle.rules.specs.declared.Parted.{Parted}
+use Rattle.rules.specs.declared.Refusal.{Refusal}
+use Rattle.rules.specs.declared.StageSize.{StageSize}
 use Rattle.rules.specs.Bounds.{max_list, max_level}
 use Rattle.rules.specs.Tables.{GraphWords, graph_in, held}
 use Rattle.rules.specs.Stages.{split}
 use Rattle.rules.specs.Refusals.{drivers_fit, below, no_repeat, something_read}
-use Rattle.rules.specs.Answers.{endpoints, pin_set, stage_fits, parted_of}
+use Rattle.rules.specs.Answers.{endpoints, pin_set, stage_fits, answer_of, stage_size}
 use Rattle.cuts.specs.Checked.{Checked}
 use Rattle.graphs.specs.Parts.{lent as words_of}
 use Rattle.walk.specs.State.{Stops}
@@ -71,7 +72,7 @@ late_number c t chosen before level handed taken =
     (refuse 11 (stage_fits (split (graph_in c t) chosen before (Some level)) handed taken)))
 
 -- what is left of it: h and t are the tables as they were lent, h' and t' as they come back
-pub record Parted1 (c : GraphCounts) (ws os ds rs chosen before : List ℕ) (level : ℕ) (h t h' t' : List ℕ) (r : Parted) : Type 0 where
-  pub answer : r ≡ parted_of (late_number c (words_of ws os ds rs) chosen before level (length h) (length t)) (split (graph_in c (words_of ws os ds rs)) chosen before (Some level))
+pub record Parted1 (c : GraphCounts) (ws os ds rs chosen before : List ℕ) (level : ℕ) (h t h' t' : List ℕ) (r : Result StageSize Refusal) : Type 0 where
+  pub answer : r ≡ answer_of (late_number c (words_of ws os ds rs) chosen before level (length h) (length t)) (stage_size (split (graph_in c (words_of ws os ds rs)) chosen before (Some level)))
   pub handed : h' ≡ held (late_number c (words_of ws os ds rs) chosen before level (length h) (length t)) (split (graph_in c (words_of ws os ds rs)) chosen before (Some level)).handed (length h)
   pub taken : t' ≡ held (late_number c (words_of ws os ds rs) chosen before level (length h) (length t)) (split (graph_in c (words_of ws os ds rs)) chosen before (Some level)).taken (length t)

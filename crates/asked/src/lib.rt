@@ -6,7 +6,7 @@ ghost use Rattle.laws.specs.Words.{zeros};
 ghost use Rattle.asked.specs.Answer.{lists_fit, Sound, Room, Begun, Parts, Parted1};
 
 use members::insert_all;
-use rules::{GraphCounts, Parted};
+use rules::{GraphCounts, Refusal, StageSize};
 use splits::{Spot, cut};
 use subsets::num_endpoint_groups;
 use walk::given::{all_below, set_stops};
@@ -62,43 +62,31 @@ pub fn part_checked(
     handed: &mut [u32],
     taken: &mut [u32],
     work: &mut [u32],
-) -> Parted
+) -> Result<StageSize, Refusal>
     requires { Parts c drivers.now outputs.now dffs.now rams.now handed.old taken.old work.old }
     ensures { Parted1 c drivers.now outputs.now dffs.now rams.now chosen.now before.now level handed.old taken.old handed.new taken.new result }
 {
     let m = (c.pins as usize) + 1;
     let ends = num_endpoint_groups(c);
     if !begin(chosen, before, work, m, ends) {
-        return Parted::Refused(15);
+        return Err(Refusal::Index);
     }
-    let r = cut(
-        c,
-        drivers,
-        outputs,
-        dffs,
-        rams,
-        work,
-        handed,
-        taken,
-        Spot {
-            m,
-            d: level,
-            left: chosen.len(),
-            handed: 0,
-            taken: 0,
-        },
-    );
-    if r.listed == 0 {
-        zero(handed);
-        zero(taken);
-        return Parted::Refused(14);
+    let at = Spot {
+        m,
+        d: level,
+        left: chosen.len(),
+        handed: 0,
+        taken: 0,
+    };
+    match cut(c, drivers, outputs, dffs, rams, work, handed, taken, at) {
+        Ok(p) => Ok(StageSize {
+            handed: p.handed as u32,
+            taken: p.taken as u32,
+        }),
+        Err(e) => {
+            zero(handed);
+            zero(taken);
+            Err(e)
+        }
     }
-    if !r.fits {
-        zero(handed);
-        zero(taken);
-        return Parted::Refused(11);
-    }
-    let first = r.handed as u32;
-    let second = r.taken as u32;
-    Parted::Stage(first, second)
 }

@@ -171,10 +171,10 @@ module _ (n : Netlist) (acc : Accepted n) (env : Env) (v β : ℕ → Bool) (obe
   -- ---- a RAM's write enables
   module _ (ps done : List ℕ) (c : ℕ) (hc : c < cells n) (e : kind_of n c ≡ ram) (tr : (q : ℕ) → 0 < count q (clocks_of n c) → 0 < count q ps) where
     -- bits: the bits done
-    abbrev Some : List ℕ → Ends → Type 0
-    Some bits s = Holding n acc s × (Agrees env β s.drivers → Bits done ps s × ((x : Bool) → ClockActive n env v c #W_CLK x → lit_of β (first_or 0 s.active (named n c #W_CLK)) ≡ x → (j : ℕ) → 0 < count j bits → WriteOk s c x j))
+    abbrev SoFar : List ℕ → Ends → Type 0
+    SoFar bits s = Holding n acc s × (Agrees env β s.drivers → Bits done ps s × ((x : Bool) → ClockActive n env v c #W_CLK x → lit_of β (first_or 0 s.active (named n c #W_CLK)) ≡ x → (j : ℕ) → 0 < count j bits → WriteOk s c x j))
 
-    write_held : (not_done : count c done ≡ 0) (bits : List ℕ) (s : Ends) (j : ℕ) → Some bits s → Some (j ∷ bits) (write_end n (lits n) c s j)
+    write_held : (not_done : count c done ≡ 0) (bits : List ℕ) (s : Ends) (j : ℕ) → SoFar bits s → SoFar (j ∷ bits) (write_end n (lits n) c s j)
     write_held not_done bits s j h = (
       write_holds n acc c hc e s j h.0,
       λ ag.
@@ -195,7 +195,7 @@ module _ (n : Netlist) (acc : Accepted n) (env : Env) (v β : ℕ → Bool) (obe
 
     ram_held : count c done ≡ 0 → (s : Ends) → Held done ps s → Held (c ∷ done) ps (ram_ends n (lits n) s c)
     ram_held not_done s h =
-        let w : Some (behind [] (upto 32)) (ram_ends n (lits n) s c) = over_done Some (λ j. Unit {0}) (write_end n (lits n) c) (λ bits t j q k. write_held not_done bits t j k) (upto 32) [] (with_ram s c) (λ j m. tt)
+        let w : SoFar (behind [] (upto 32)) (ram_ends n (lits n) s c) = over_done SoFar (λ j. Unit {0}) (write_end n (lits n) c) (λ bits t j q k. write_held not_done bits t j k) (upto 32) [] (with_ram s c) (λ j m. tt)
         (with_holds n acc s c hc e h.0, λ ag. (record { acts = (h.1 ag).acts; flops = (h.1 ag).flops; rams = (h.1 ag).rams }, λ x ca ab j m. absurd (omega arith))) in (
           w.0,
           λ ag. (let b = w.1 ag in let t : Ends = ram_ends n (lits n) s c in

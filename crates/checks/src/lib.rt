@@ -2,194 +2,115 @@
 // for. With m pins the visits' marks lie from 0, the stack and then the markers from m, the events from 2 * m.
 #![tactic(auto)]
 
-ghost use Rattle.std.specs.Prelude.{◌≡◌, ◌+◌, ◌*◌, ◌<◌, ◌≤◌, length};
+ghost use Rattle.std.specs.Prelude.{◌≡◌, OnOk, length};
 ghost use Rattle.laws.specs.Words.{zeros};
-ghost use Rattle.rules.specs.Answers.{check_netlist_number, check_all_number};
-ghost use Rattle.roles.specs.Reading.{tables, Fits};
+ghost use Rattle.rules.specs.Answers.{done_of, check_netlist_number, check_all_number};
+ghost use Rattle.rules.specs.Tables.{netlist_in};
+ghost use Rattle.roles.specs.Reading.{Fits};
 ghost use Rattle.orders.specs.State.{Fresh};
 ghost use Rattle.markers.specs.Marks.{LaidOut};
-ghost use Rattle.checks.specs.Ready.{sizes_number, number_to, asked_number, Asked, Readied, Checked, Tested};
+ghost use Rattle.checks.specs.Ready.{sizes_number, Asked, Readied, Sound, Checked, Tested};
 
-use clocks::numbers::clocks_number;
+use clocks::numbers::test_clocks;
 use markers::mark_all;
-use netlist::{netlist_long, netlist_within, tables_number};
+use netlist::{netlist_long, netlist_within, test_tables};
 use orders::visit_order;
-use rules::NetlistCounts;
+use rules::{NetlistCounts, NetlistTables, Refusal};
 use unmarked::markers_free;
 use words::zero;
 
 // 7, then 8 and 9, of tables that 1 to 6 accept. Where none refuses, the events of the visits stand in the work words.
-pub fn ready_netlist(
-    kinds: &[u32],
-    starts: &[u32],
-    list: &[u32],
-    pins: &[u32],
-    nets: &[u32],
-    work: &mut [u32],
-) -> u32
-    requires fits { Fits (tables kinds.now starts.now list.now pins.now nets.now) }
-    requires fresh { Fresh (length list.now) work.old }
-    ensures { Readied (tables kinds.now starts.now list.now pins.now nets.now) work.old work.new result }
+pub fn ready_netlist(n: NetlistTables, work: &mut [u32]) -> Result<(), Refusal>
+    requires fits { Fits (netlist_in n) }
+    requires fresh { Fresh (length n.list.now) work.old }
+    ensures { Readied (netlist_in n.entry) work.old work.new result }
 {
-    let free = visit_order(kinds, starts, list, pins, nets, work);
-    if !free {
-        return 7;
-    }
-    clocks_number(kinds, starts, list, pins, nets)
+    visit_order(n, work)?;
+    test_clocks(n)
 }
 
 // Whether 10 lets pass, by the events. The markers stand in the work words, and the events still do.
-pub fn markers_right(
-    kinds: &[u32],
-    starts: &[u32],
-    list: &[u32],
-    pins: &[u32],
-    nets: &[u32],
-    work: &mut [u32],
-) -> bool
-    requires fits { Fits (tables kinds.now starts.now list.now pins.now nets.now) }
-    requires laid_out { LaidOut (tables kinds.now starts.now list.now pins.now nets.now) work.old }
-    ensures { Tested (tables kinds.now starts.now list.now pins.now nets.now) work.old work.new result }
+pub fn markers_right(n: NetlistTables, work: &mut [u32]) -> bool
+    requires fits { Fits (netlist_in n) }
+    requires laid_out { LaidOut (netlist_in n) work.old }
+    ensures { Tested (netlist_in n.entry) work.old work.new result }
 {
-    mark_all(kinds, starts, list, pins, nets, work);
-    markers_free(kinds, starts, list, pins, nets, work)
+    mark_all(n, work);
+    markers_free(n, work)
 }
 
 // 3 to 9, of tables that 1 and 2 let pass. Where none refuses, the events stand in the work words.
-pub fn checked_netlist(
-    kinds: &[u32],
-    starts: &[u32],
-    list: &[u32],
-    pins: &[u32],
-    nets: &[u32],
-    work: &mut [u32],
-) -> u32
-    requires { Asked kinds.now starts.now list.now pins.now work.old }
-    ensures { Checked (tables kinds.now starts.now list.now pins.now nets.now) work.new result }
+pub fn checked_netlist(n: NetlistTables, work: &mut [u32]) -> Result<(), Refusal>
+    requires { Asked n.kinds.now n.starts.now n.list.now n.pins.now work.old }
+    ensures { Checked (netlist_in n.entry) work.new result }
 {
-    let number = tables_number(kinds, starts, list, pins, nets, work);
-    if number != 0 {
-        return number;
-    }
+    test_tables(n, work)?;
     zero(work);
-    ready_netlist(kinds, starts, list, pins, nets, work)
+    ready_netlist(n, work)
 }
 
-// 3 to 9, and 10 where it is asked for.
-fn tables_to(
-    kinds: &[u32],
-    starts: &[u32],
-    list: &[u32],
-    pins: &[u32],
-    nets: &[u32],
-    work: &mut [u32],
-    ten: bool,
-) -> u32
-    requires { Asked kinds.now starts.now list.now pins.now work.old }
-    ensures { result ≡ number_to ten (tables kinds.now starts.now list.now pins.now nets.now) }
+// 1 and 2, by the lengths of the tables and of the work words.
+fn test_sizes(c: NetlistCounts, n: NetlistTables, work: usize) -> Result<(), Refusal>
+    ensures { result ≡ done_of (sizes_number c (length n.entry.kinds.now) (length n.entry.starts.now) (length n.entry.list.now) (length n.entry.pins.now) (length n.entry.nets.now) work) }
 {
-    let number = checked_netlist(kinds, starts, list, pins, nets, work);
-    if number != 0 {
-        return number;
+    if !netlist_within(c) {
+        return Err(Refusal::Bounds);
     }
-    if !ten {
-        return 0;
-    }
-    let free = markers_right(kinds, starts, list, pins, nets, work);
-    if !free {
-        return 10;
-    }
-    0
-}
-
-// 1 and 2, by the lengths of the tables.
-fn sizes_number(
-    c: NetlistCounts,
-    kinds: usize,
-    starts: usize,
-    list: usize,
-    pins: usize,
-    nets: usize,
-    work: usize,
-) -> u32
-    ensures { result ≡ sizes_number c kinds starts list pins nets work }
-{
-    let within = netlist_within(c);
-    if !within {
-        return 1;
-    }
-    let long = netlist_long(c, kinds, starts, list, pins, nets);
-    if !long {
-        return 2;
-    }
-    let room = 8 * c.pins as usize + 1024;
-    if work < room {
-        return 2;
-    }
-    0
-}
-
-// 1 and 2, then the others.
-fn netlist_to(
-    c: NetlistCounts,
-    kinds: &[u32],
-    starts: &[u32],
-    list: &[u32],
-    pins: &[u32],
-    nets: &[u32],
-    work: &mut [u32],
-    ten: bool,
-) -> u32
-    requires { work.old ≡ zeros (length work.old) }
-    ensures { result ≡ asked_number ten c (tables kinds.now starts.now list.now pins.now nets.now) (length work.old) }
-{
-    let sizes = sizes_number(
+    let long = netlist_long(
         c,
-        kinds.len(),
-        starts.len(),
-        list.len(),
-        pins.len(),
-        nets.len(),
-        work.len(),
+        n.kinds.len(),
+        n.starts.len(),
+        n.list.len(),
+        n.pins.len(),
+        n.nets.len(),
     );
-    if sizes != 0 {
-        return sizes;
+    let room = 8 * c.pins as usize + 1024;
+    if !long || work < room {
+        return Err(Refusal::Lengths);
     }
-    tables_to(kinds, starts, list, pins, nets, work, ten)
+    Ok(())
+}
+
+// 1 and 2, then 3 to 9. Where none refuses, the events stand in the work words.
+fn test_to_nine(c: NetlistCounts, n: NetlistTables, work: &mut [u32]) -> Result<(), Refusal>
+    requires { work.old ≡ zeros (length work.old) }
+    ensures answer { result ≡ done_of (check_netlist_number c (netlist_in n.entry) (length work.old)) }
+    ensures sound { OnOk result (Sound (netlist_in n.entry) work.new) }
+{
+    test_sizes(c, n, work.len())?;
+    checked_netlist(n, work)
+}
+
+// The same, then 10.
+fn test_to_ten(c: NetlistCounts, n: NetlistTables, work: &mut [u32]) -> Result<(), Refusal>
+    requires { work.old ≡ zeros (length work.old) }
+    ensures { result ≡ done_of (check_all_number c (netlist_in n.entry) (length work.old)) }
+{
+    test_to_nine(c, n, work)?;
+    if !markers_right(n, work) {
+        return Err(Refusal::Marker);
+    }
+    Ok(())
 }
 
 // The netlist check, tests 1 to 9: any tables, however broken, and work words of any content.
-pub fn check_netlist(
-    c: NetlistCounts,
-    kinds: &[u32],
-    starts: &[u32],
-    list: &[u32],
-    pins: &[u32],
-    nets: &[u32],
-    work: &mut [u32],
-) -> u32
-    ensures { (result ≡ check_netlist_number c (tables kinds.now starts.now list.now pins.now nets.now) (length work.old)) × (work.new ≡ zeros (length work.old)) }
+pub fn check_netlist(c: NetlistCounts, n: NetlistTables, work: &mut [u32]) -> Result<(), Refusal>
+    ensures answer { result ≡ done_of (check_netlist_number c (netlist_in n.entry) (length work.old)) }
+    ensures zero { work.new ≡ zeros (length work.old) }
 {
     zero(work);
-    let number = netlist_to(c, kinds, starts, list, pins, nets, work, false);
+    let outcome = test_to_nine(c, n, work);
     zero(work);
-    number
+    outcome
 }
 
 // The same with test 10: all that turns a netlist away from building, whatever the rooms.
-pub fn check_all(
-    c: NetlistCounts,
-    kinds: &[u32],
-    starts: &[u32],
-    list: &[u32],
-    pins: &[u32],
-    nets: &[u32],
-    work: &mut [u32],
-) -> u32
-    ensures { (result ≡ check_all_number c (tables kinds.now starts.now list.now pins.now nets.now) (length work.old)) × (work.new ≡ zeros (length work.old)) }
+pub fn check_all(c: NetlistCounts, n: NetlistTables, work: &mut [u32]) -> Result<(), Refusal>
+    ensures answer { result ≡ done_of (check_all_number c (netlist_in n.entry) (length work.old)) }
+    ensures zero { work.new ≡ zeros (length work.old) }
 {
     zero(work);
-    let number = netlist_to(c, kinds, starts, list, pins, nets, work, true);
+    let outcome = test_to_ten(c, n, work);
     zero(work);
-    number
+    outcome
 }

@@ -32,11 +32,9 @@ fn clear_pins(work: &mut [u32], m: usize, k: usize)
     requires m_in_bounds { 8 * m ≤ length work.old }
     ensures { PinsCleared m work.old k work.new }
 {
-    let mut i = 0;
-    while i < k {
+    for i in 0..k {
         let u = word(work, 3 * m + i);
         clear_pin(work, m, u as usize);
-        i += 1;
     }
 }
 
@@ -56,12 +54,10 @@ pub fn add_stops(handed: &[u32], first: usize, count: usize, work: &mut [u32], m
     requires m_in_bounds { 2 * m ≤ length work.old }
     ensures { StopsAdded m (part handed.now first count) work.old work.new }
 {
-    let mut i = 0;
-    while i < count {
+    for i in 0..count {
         let p = word(handed, first + i);
         let at = m + (p as usize);
         work[at] = 1;
-        i += 1;
     }
 }
 
@@ -80,11 +76,9 @@ pub fn leave(
     ensures { Left m ends left (part taken.now first count) work.old work.new result }
 {
     let mut n = left;
-    let mut i = 0;
-    while i < count {
+    for i in 0..count {
         let e = word(taken, first + i);
         n = remove(work, 8 * m, ends, n, e);
-        i += 1;
     }
     n
 }

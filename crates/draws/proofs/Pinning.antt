@@ -1,7 +1,6 @@
 -- From empty tables through steps 1 and 2, in the code's shape.
-use Rattle.std.specs.Prelude.{Some}
+use Rattle.std.specs.Prelude.{Option, Some, None}
 use mathlib.Core.Path.{◌≡◌, refl, sym, ap, subst, ◌∙◌}
-use mathlib.Core.Bool.{true, false}
 use mathlib.Core.List.{List, [], ◌∷◌, map}
 use Prim.Native.Nat.{ℕ, zero, suc, ◌+◌, ◌*◌, ◌≤◌, ◌<◌}
 use native.Mathlib.Omega.{arith}
@@ -9,7 +8,6 @@ use native.Mathlib.Numerals.{add-one}
 use lib.ListN.{length, get_or, length-map}
 use Rattle.laws.specs.Search.{Event, enter}
 use Rattle.laws.specs.Words.{zeros, part, ZeroFrom}
-use Rattle.laws.proofs.Tests.{true≢false}
 use Rattle.laws.proofs.Indices.{map_at}
 use Rattle.laws.proofs.Words.{zeros-length, zeros_at, zero_from_zeros, filled_none, part_length, part_at}
 use Rattle.rules.specs.declared.Driver.TheVariants.{Constant}
@@ -18,19 +16,20 @@ use Rattle.rules.specs.declared.Rooms.{Rooms}
 use Rattle.rules.specs.Netlist.{Netlist, size, cells, start_of, kind_of, dff}
 use Rattle.rules.specs.Graph.{driver_at}
 use Rattle.rules.specs.Tables.{decode, decode_at, drivers_in}
+use Rattle.rules.proofs.Tables.{clash}
 use Rattle.rules.specs.Build.{events, step1, start2, step2, gate_count}
-use Rattle.roles.specs.Reading.{tables, Fits}
+use Rattle.roles.specs.Reading.{tables}
 use Rattle.drivers.specs.Written.{Holds}
 use Rattle.drivers.proofs.Rows.{holds_drivers}
 use Rattle.gates.specs.Step.{Ready}
 use Rattle.gates.proofs.Steps.{ready_start}
 use Rattle.orders.specs.State.{event_of, events_of}
 use Rattle.builds.proofs.Tallies.{step2_keeps}
-use Rattle.drafts.specs.declared.Counted.{Counted}
 use Rattle.drafts.specs.Table.{Table}
 use Rattle.drafts.specs.Layout.{Flags}
 use Rattle.flags.specs.Flagging.{Flagged, Blank}
 use Rattle.flags.specs.Flagging as flags
+use Rattle.flags.proofs.Passing.{Kept, kept}
 use Rattle.prepares.specs.Prepared.{Cleared}
 use Rattle.visits.specs.Drafting.{Drafting, Listed, pins_over, Moved, moved, stuck, Visiting, visiting, event_at, state_at}
 use Rattle.visits.proofs.Places.{number_empty, start-below}
@@ -81,18 +80,6 @@ module _ (kinds starts list pins nets : List ℕ) (rm : Rooms) (w ws os : List �
   abbrev m : ℕ
   m = length list
 
-  pub empty_fits : Fits (tables kinds starts list pins nets)
-  empty_fits = from e
-    where
-      from : Empty n rm w ws os → Fits n
-      from (empty f a c s z o l) = f
-
-  pub empty_small : (length list ≤ 1048576) × (rm.pins ≤ 16777215)
-  empty_small = from e
-    where
-      from : Empty n rm w ws os → (length list ≤ 1048576) × (rm.pins ≤ 16777215)
-      from (empty f a c s z o l) = (s.pins, s.graph_pins)
-
   module _ (at : ℕ) (ea : at ≡ 8 * length list + 2 * rm.pins + 2) where
     pub empty_blank : Blank (length list) at w ws no_tally
     empty_blank = from e
@@ -122,40 +109,41 @@ module _ (kinds starts list pins nets : List ℕ) (rm : Rooms) (w ws os : List �
             alone : drivers_in ws 0 ≡ Constant ∷ []
             alone = holds_drivers ws (Constant ∷ []) 0 holds refl
 
-    module _ (w₁ ws₁ : List ℕ) (one-step : Counted) (g : Flagged (length list) at (step1 (tables kinds starts list pins nets)) w ws no_tally w₁ ws₁ one-step) where
-      pub pins_full : one-step.fits ≡ false → Moved (tables kinds starts list pins nets) rm (step2 (tables kinds starts list pins nets)) w ws os w₁ ws₁ os one-step
-      pins_full q = from e g
+    module _ (w₁ ws₁ : List ℕ) where
+      pub pins_full : Flagged (length list) at (step1 (tables kinds starts list pins nets)) w ws no_tally w₁ ws₁ None
+          → Moved (tables kinds starts list pins nets) rm (step2 (tables kinds starts list pins nets)) w ws os w₁ ws₁ os None
+      pins_full g = from e g
         where
-          from : Empty n rm w ws os → Flagged (length list) at (step1 n) w ws no_tally w₁ ws₁ one-step → Moved n rm (step2 n) w ws os w₁ ws₁ os one-step
-          from (empty f a c s z o l) (flags.made x b d k i j) = true≢false one-step.fits x q
+          from : Empty n rm w ws os → Flagged (length list) at (step1 n) w ws no_tally w₁ ws₁ None → Moved n rm (step2 n) w ws os w₁ ws₁ os None
+          from (empty f a c s z o l) (flags.made t x b d k i j) = let q : None ≡ Some t = x in clash (cc)
           from (empty f a c s z o l) (flags.full x b d k) =
-              stuck x (pins_over (omega (arith, b, ap length z, zeros-length (3 * (rm.pins + 1)), (step2_keeps n).longer))) d k refl
+              stuck refl (pins_over (omega (arith, b, ap length z, zeros-length (3 * (rm.pins + 1)), (step2_keeps n).longer))) d k refl
 
-      pub pins_begun : one-step.fits ≡ true → Visiting (tables kinds starts list pins nets) rm w₁ ws₁ os one-step.tally at 0
-      pins_begun q = from e g
+      pub pins_begun : (t : Tally) → Flagged (length list) at (step1 (tables kinds starts list pins nets)) w ws no_tally w₁ ws₁ (Some t)
+          → Visiting (tables kinds starts list pins nets) rm w₁ ws₁ os t at 0
+      pins_begun t g = from e (kept (length list) at (step1 n) w ws no_tally w₁ ws₁ t g)
         where
-          from : Empty n rm w ws os → Flagged (length list) at (step1 n) w ws no_tally w₁ ws₁ one-step → Visiting n rm w₁ ws₁ os one-step.tally at 0
-          from (empty f a c s z o l) (flags.full x b d k) = true≢false one-step.fits q x
-          from (empty f a c s z o l) (flags.made x b d k i j) =
+          from : Empty n rm w ws os → Kept (length list) at (step1 n) w ws no_tally w₁ ws₁ t → Visiting n rm w₁ ws₁ os t at 0
+          from (empty f a c s z o l) g =
               let ev = event_word n w c.long c.order in
-              visiting f a ev.0 (subst (Drafting n rm w₁ ws₁ one-step.tally) (sym (state_first n)) (begun ev.1))
+              visiting f a ev.0 (subst (Drafting n rm w₁ ws₁ t) (sym (state_first n)) (begun ev.1))
               (subst (Listed rm os) (sym (state_first n)) (record { fits = omega arith; words = o ∙ sym (filled_none rm.outputs) })) ea
             where
               old : (y : ℕ) → 6 * length list ≤ y → y < at → get_or w₁ y 0 ≡ 0
-              old y lo hi = i.after y lo hi ∙ c.after y (omega (arith, lo))
+              old y lo hi = g.only.after y lo hi ∙ c.after y (omega (arith, lo))
 
               low : (y : ℕ) → y < 2 * length list → get_or w₁ y 0 ≡ 0
-              low y hi = i.before y (omega (arith, hi)) ∙ c.before y hi
+              low y hi = g.only.before y (omega (arith, hi)) ∙ c.before y hi
 
               flop_low : (v : ℕ) → v < cells n → kind_of n v ≡ dff → start_of n v < length list
               flop_low v lv kv = start-below n f.accepted v lv (dff_listed n f.accepted v lv kv)
 
-              begun : ((y : ℕ) → y < 2 * size n → event_of (get_or w (2 * size n + y) 0) ≡ event_at n y) → Drafting n rm w₁ ws₁ one-step.tally (start2 (step1 n))
+              begun : ((y : ℕ) → y < 2 * size n → event_of (get_or w (2 * size n + y) 0) ≡ event_at n y) → Drafting n rm w₁ ws₁ t (start2 (step1 n))
               begun ev = record {
                 sized = s;
-                table = subst (λ (y : ℕ). Table y w₁ ws₁ one-step.tally) ea b.table;
-                long = j ∙ ap length z ∙ zeros-length (3 * (rm.pins + 1));
-                drivers = d;
+                table = subst (λ (y : ℕ). Table y w₁ ws₁ t) ea g.state.table;
+                long = g.long ∙ ap length z ∙ zeros-length (3 * (rm.pins + 1));
+                drivers = g.drivers;
                 written = record {
                   lits = λ p h. old (7 * length list + p) (omega arith) (omega (arith, ea, h));
                   flop_numbers = λ v lv kv. old (6 * length list + start_of n v) (omega arith) (omega (arith, ea, flop_low v lv kv)) ∙ sym (number_empty v);
@@ -164,21 +152,20 @@ module _ (kinds starts list pins nets : List ℕ) (rm : Rooms) (w ws os : List �
                       (omega (arith, ea, start-below n f.accepted v lv (omega (arith, h, ap (start_of n) (add-one v))))) ∙ sym (number_empty v);
                 };
                 marked = λ y h. old (8 * length list + y) (omega arith) (omega (arith, ea, h));
-                outputs = k.outputs;
-                dffs = k.dffs;
-                rams = k.rams;
-                dffs_fit = omega (arith, k.dffs);
-                rams_fit = omega (arith, k.rams);
-                order = λ y h. ap event_of (i.before (2 * length list + y) (omega (arith, h))) ∙ ev y h;
-                flags = subst (Flags (length list) w₁) d b.flags;
+                outputs = g.ends.outputs;
+                dffs = g.ends.dffs;
+                rams = g.ends.rams;
+                dffs_fit = omega (arith, g.ends.dffs);
+                rams_fit = omega (arith, g.ends.rams);
+                order = λ y h. ap event_of (g.only.before (2 * length list + y) (omega (arith, h))) ∙ ev y h;
+                flags = subst (Flags (length list) w₁) g.drivers g.state.flags;
               }
 
-      pub pins_done : one-step.fits ≡ true → (w₂ ws₂ os₂ : List ℕ) (r : Counted)
+      pub pins_done : (t : Tally) → Flagged (length list) at (step1 (tables kinds starts list pins nets)) w ws no_tally w₁ ws₁ (Some t) → (w₂ ws₂ os₂ : List ℕ) (r : Option Tally)
           → Moved (tables kinds starts list pins nets) rm (step2 (tables kinds starts list pins nets)) w₁ ws₁ os w₂ ws₂ os₂ r
           → Moved (tables kinds starts list pins nets) rm (step2 (tables kinds starts list pins nets)) w ws os w₂ ws₂ os₂ r
-      pins_done q w₂ ws₂ os₂ r v = from g v
+      pins_done t g w₂ ws₂ os₂ r v = from (kept (length list) at (step1 n) w ws no_tally w₁ ws₁ t g) v
         where
-          from : Flagged (length list) at (step1 n) w ws no_tally w₁ ws₁ one-step → Moved n rm (step2 n) w₁ ws₁ os w₂ ws₂ os₂ r → Moved n rm (step2 n) w ws os w₂ ws₂ os₂ r
-          from (flags.full x b d k) y = true≢false one-step.fits q x
-          from (flags.made x b d k i j) (moved a c l y) = moved a c l (y ∙ i.long)
-          from (flags.made x b d k i j) (stuck a c l y z) = stuck a c (l ∙ i.long) (y ∙ j) z
+          from : Kept (length list) at (step1 n) w ws no_tally w₁ ws₁ t → Moved n rm (step2 n) w₁ ws₁ os w₂ ws₂ os₂ r → Moved n rm (step2 n) w ws os w₂ ws₂ os₂ r
+          from g (moved x a c l y) = moved x a c l (y ∙ g.only.long)
+          from g (stuck a c l y z) = stuck a c (l ∙ g.only.long) (y ∙ g.long) z

@@ -2,56 +2,29 @@
 #![tactic(auto)]
 
 ghost use Rattle.std.specs.Prelude.{◌≡◌, ◌+◌, ◌*◌, ◌<◌, length, set};
-ghost use Rattle.rules.specs.Tables.{unused, flag_in, decode, decode_at, edge_word};
+ghost use Rattle.rules.specs.Tables.{decode, decode_at, edge_word};
 ghost use Rattle.drivers.specs.Written.{written};
 
 use rules::{Driver, Edge, Literal};
 
-// A case whose third word is not used.
-fn is_unused(b: u32, d: Driver) -> Option<Driver>
-    ensures { result ≡ unused b d }
-{
-    if b == 0 { Some(d) } else { None }
-}
-
-// A clock flag's two words.
-fn flag_in(a: u32, b: u32) -> Option<Driver>
-    ensures { result ≡ flag_in a b }
-{
-    match b {
-        0 => Some(Driver::Flag(a, Edge::Rising)),
-        1 => Some(Driver::Flag(a, Edge::Falling)),
-        _ => None,
-    }
-}
-
-// A constant uses neither word.
-fn constant_in(a: u32, b: u32) -> Option<Driver>
-    ensures { result ≡ decode 0 a b }
-{
-    if a == 0 {
-        is_unused(b, Driver::Constant)
-    } else {
-        None
-    }
-}
-
-// What three words say.
+// What three words say; a word that a case does not use is 0.
 pub fn decode_words(t: u32, a: u32, b: u32) -> Option<Driver>
     ensures { result ≡ decode t a b }
 {
-    match t {
-        0 => constant_in(a, b),
-        1 => Some(Driver::And(Literal { word: a }, Literal { word: b })),
-        2 => is_unused(b, Driver::Port(a)),
-        3 => flag_in(a, b),
-        4 => is_unused(b, Driver::Dff(a)),
-        5 => is_unused(b, Driver::Ram(a)),
+    match (t, a, b) {
+        (0, 0, 0) => Some(Driver::Constant),
+        (1, _, _) => Some(Driver::And(Literal { word: a }, Literal { word: b })),
+        (2, _, 0) => Some(Driver::Port(a)),
+        (3, _, 0) => Some(Driver::Flag(a, Edge::Rising)),
+        (3, _, 1) => Some(Driver::Flag(a, Edge::Falling)),
+        (4, _, 0) => Some(Driver::Dff(a)),
+        (5, _, 0) => Some(Driver::Ram(a)),
         _ => None,
     }
 }
 
-// The driver of a pin, or that its words are none of the cases.
+// The driver of a pin, or none where its words are none of the cases.
+#[tactic(auto, unfolding(rules::specs::Tables::decode_at))]
 pub fn driver_at(drivers: &[u32], pin: usize) -> Option<Driver>
     requires { 3 * pin + 2 < length drivers.now }
     ensures { result ≡ decode_at drivers.now pin }
@@ -80,6 +53,7 @@ fn put_words(drivers: &mut [u32], at: usize, t: u32, a: u32, b: u32)
 }
 
 // The driver of a pin is written; every other word is as it was.
+#[tactic(auto, unfolding(crate::specs::Written::written))]
 pub fn put_driver(drivers: &mut [u32], pin: usize, d: Driver)
     requires { 3 * pin + 2 < length drivers.old }
     ensures { drivers.new ≡ written drivers.old pin d }

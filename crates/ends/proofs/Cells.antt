@@ -5,7 +5,7 @@ use mathlib.Core.List.{List, [], ◌∷◌}
 use Prim.Native.Nat.{ℕ, zero, suc, ◌+◌, ◌-◌, ◌<◌, ◌≤◌}
 use native.Mathlib.Omega.{arith}
 use borrow.Author.Tests.{eqb-true, eqb-false, ltb-true, ltb-false}
-use Rattle.std.specs.Prelude.{◌==◌}
+use Rattle.std.specs.Prelude.{Option, ◌==◌}
 use Rattle.laws.specs.Tests.{◌<?◌}
 use Rattle.laws.specs.Lists.{count, keep, over, upto, first_or, put}
 use Rattle.laws.specs.Sets.{insert}
@@ -19,7 +19,6 @@ use Rattle.rules.specs.Build.{is_clock, walk, clocks_of, Ends, trace, trace_cloc
 use Rattle.rules.specs.Refusals.{Accepted}
 use Rattle.rules.proofs.Tables.{clash, own_cell, in_cell, slot_of, same_pin}
 use Rattle.builds.proofs.Ends.{with_ram}
-use Rattle.roles.specs.declared.Entry.{Entry}
 use Rattle.roles.specs.Reading.{either_in, cell_pins, entry_of}
 use Rattle.roles.proofs.Roles.{either_same}
 use Rattle.activity.specs.Traced.{lits, entry_traced}
@@ -292,10 +291,10 @@ module _ (n : Netlist) (acc : Accepted n) where
       t = traces n s (named n c #CLK)
 
       drivers_are : t.drivers ≡ (flop_clock n s.drivers c).drivers
-      drivers_are = traced.0 ∙ ap (λ (e : Entry). (entry_traced n s.drivers e).drivers) (sym entry_is)
+      drivers_are = traced.0 ∙ ap (λ (e : Option ℕ). (entry_traced n s.drivers e).drivers) (sym entry_is)
 
       lit_is : first_or 0 t.active (named n c #CLK) ≡ (flop_clock n s.drivers c).lit
-      lit_is = traced.1 ∙ ap (λ (e : Entry). (entry_traced n s.drivers e).lit) (sym entry_is)
+      lit_is = traced.1 ∙ ap (λ (e : Option ℕ). (entry_traced n s.drivers e).lit) (sym entry_is)
 
       pub flop_law : end_cell n (lits n) s c ≡ flop_with n c (traces n s (clocks_of n c)).active s.nexts s.enables s.writes s.rams (flop_clock n s.drivers c).drivers (flop_clock n s.drivers c).lit
       flop_law =

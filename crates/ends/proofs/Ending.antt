@@ -1,20 +1,22 @@
 -- The loop over all cells, in the code's shape.
 use mathlib.Core.Path.{◌≡◌, refl, sym, ap, ap₂, subst, ◌∙◌}
 use mathlib.Core.Bool.{Bool, true, false}
+use Rattle.std.specs.Prelude.{Some, None, ◌==◌}
 use mathlib.Core.List.{List, [], ◌∷◌, ◌++◌}
 use Prim.Native.Nat.{ℕ, zero, suc, ◌+◌, ◌*◌, ◌/◌, ◌%◌, ◌<◌, ◌≤◌}
 use native.Mathlib.Numerals.{add-one}
 use native.Mathlib.Omega.{arith}
 use lib.ListN.{length, get_or}
-use borrow.Author.Tests.{ltb-true, ltb-false}
+use borrow.Author.Tests.{ltb-true, ltb-false, eqb-true, eqb-false}
 use Rattle.laws.specs.Tests.{◌<?◌}
 use Rattle.laws.specs.Lists.{count, first_or}
 use Rattle.laws.specs.Words.{SameBelow, zeros, filled}
 use Rattle.laws.specs.Sets.{insert}
-use Rattle.laws.proofs.Tests.{by_test, true≢false}
+use Rattle.laws.proofs.Tests.{by_test}
 use Rattle.laws.proofs.Indices.{place, place_at, at_in, snoc_length, snoc_at}
 use Rattle.laws.proofs.Sets.{insert_old, insert_new, insert-once}
 use Rattle.rules.specs.declared.Driver.{Driver}
+use Rattle.rules.specs.declared.Literal.{Literal}
 use Rattle.rules.specs.declared.Tally.{Tally}
 use Rattle.rules.specs.Netlist.{Netlist, size, cells, kind_of, dff, ram, named, #D, #S, #R}
 use Rattle.rules.specs.Graph.{Made, no_record, no_ram}
@@ -25,13 +27,13 @@ use Rattle.rules.proofs.Tables.{clash}
 use Rattle.tallies.specs.Counted.{ram_counted}
 use Rattle.builds.proofs.Growing.{Keeps, keeps_refl, keeps_trans}
 use Rattle.builds.proofs.Rows.{dff_cell, dff_once, dff_has, ram_cell}
-use Rattle.roles.specs.Reading.{tables, Fits, kind_at, either_in, cell_pins, entry_of}
+use Rattle.roles.specs.Reading.{Fits, kind_at, either_in, cell_pins, entry_of}
 use Rattle.drafts.specs.declared.Added.{Added}
-use Rattle.drafts.specs.Table.{Table, drafted, SameEnds, Extends}
+use Rattle.drafts.specs.Table.{Table, drafted, Extends}
 use Rattle.drafts.specs.Layout.{index_at, Written, Flags}
-use Rattle.drafts.proofs.Steps.{below_refl, below_trans}
+use Rattle.drafts.proofs.Steps.{below_refl, below_trans, Extended, extended}
 use Rattle.activity.specs.Traced.{lits, Going, start_at, entry_traced}
-use Rattle.activity.proofs.Composing.{step_drivers, step_below, step_ends, step_long, step_short, going_after}
+use Rattle.activity.proofs.Composing.{step_long, step_short, going_after}
 use Rattle.flops.specs.Flopped.{flop_clock, flop_made, flop_record, FlopDone}
 use Rattle.flops.proofs.Flopping.{four_keeps}
 use Rattle.memories.specs.Remembered.{clocks_made, reads_first, turned, ram_clocks, clock_at, enable_of, ram_made, ram_word, RowDone, RamDone, begun, fresh, short}
@@ -62,27 +64,25 @@ record_row n c j = get_or (record_words (flop_record n (ends_at n c).drivers c))
 abbrev ram_row : Netlist → ℕ → ℕ → ℕ
 ram_row n c j = ram_word n (ends_at n c).drivers c j
 
-pub record Ending (n : Netlist) (at : ℕ) (w₀ ws₀ : List ℕ) (t₀ : Tally) (dffs₀ rams₀ w ws dffs rams : List ℕ) (i : ℕ) (step : Added) : Type 0 where
+pub record Ending (n : Netlist) (at : ℕ) (w₀ ws₀ : List ℕ) (t₀ : Tally) (dffs₀ rams₀ w ws dffs rams : List ℕ) (i : ℕ) (t : Tally) : Type 0 where
   pub inside : i ≤ cells n
-  pub going : Going n at w ws step.tally
-  pub fits : step.fits ≡ true
-  pub drivers : drafted ws step.tally ≡ (ends_at n i).drivers
+  pub going : Going n at w ws t
+  pub drivers : drafted ws t ≡ (ends_at n i).drivers
   pub below : SameBelow at w₀ w
-  pub outputs_same : step.tally.outputs ≡ t₀.outputs
-  pub dffs_same : step.tally.dffs ≡ t₀.dffs
-  pub rams_count : step.tally.rams ≡ length (ends_at n i).rams
+  pub outputs_same : t.outputs ≡ t₀.outputs
+  pub dffs_same : t.dffs ≡ t₀.dffs
+  pub rams_count : t.rams ≡ length (ends_at n i).rams
   pub records : Rows 3 (step2 n).flops (record_row n) i dffs
   pub rows : Rows 123 (ends_at n i).rams (ram_row n) i rams
-  pub rams_begun : length (step2 n).rams ≤ step.tally.rams
-  pub rams_room : 123 * step.tally.rams ≤ length rams
+  pub rams_begun : length (step2 n).rams ≤ t.rams
+  pub rams_room : 123 * t.rams ≤ length rams
 
-pub ending_begins : (n : Netlist) (at : ℕ) (w ws : List ℕ) (so : Added) (dffs rams : List ℕ) → Going n at w ws so.tally → so.fits ≡ true → drafted ws so.tally ≡ (step2 n).drivers
-    → so.tally.rams ≡ length (step2 n).rams → dffs ≡ zeros (length dffs) → 3 * length (step2 n).flops ≤ length dffs → rams ≡ zeros (length rams) → 123 * so.tally.rams ≤ length rams
-    → Ending n at w ws so.tally dffs rams w ws dffs rams 0 so
-ending_begins n at w ws so dffs rams g f ed er zd ld zr lr = record {
+pub ending_begins : (n : Netlist) (at : ℕ) (w ws : List ℕ) (so : Tally) (dffs rams : List ℕ) → Going n at w ws so → drafted ws so ≡ (step2 n).drivers
+    → so.rams ≡ length (step2 n).rams → dffs ≡ zeros (length dffs) → 3 * length (step2 n).flops ≤ length dffs → rams ≡ zeros (length rams) → 123 * so.rams ≤ length rams
+    → Ending n at w ws so dffs rams w ws dffs rams 0 so
+ending_begins n at w ws so dffs rams g ed er zd ld zr lr = record {
   inside = omega arith;
   going = g;
-  fits = f;
   drivers = ed ∙ sym (ap (λ (e : Ends). e.drivers) (ends_none n));
   below = below_refl at w;
   outputs_same = refl;
@@ -94,14 +94,14 @@ ending_begins n at w ws so dffs rams g f ed er zd ld zr lr = record {
   rams_room = lr;
 }
 
-module _ (n : Netlist) (at : ℕ) (w₀ ws₀ : List ℕ) (t₀ : Tally) (dffs₀ rams₀ w ws dffs rams : List ℕ) (i : ℕ) (so : Added)
+module _ (n : Netlist) (at : ℕ) (w₀ ws₀ : List ℕ) (t₀ : Tally) (dffs₀ rams₀ w ws dffs rams : List ℕ) (i : ℕ) (so : Tally)
     (h : Ending n at w₀ ws₀ t₀ dffs₀ rams₀ w ws dffs rams i so) where
   abbrev acc : Accepted n
   acc = h.going.grounded.accepted
 
   -- ---- all cells are done
-  pub ending_ends : cells n ≤ i → length ws ≡ length ws₀ → length dffs ≡ length dffs₀ → length rams ≡ length rams₀ → EndsDone n at w₀ ws₀ t₀ dffs₀ rams₀ w ws dffs rams (record { fits = true; tally = so.tally })
-  ending_ends l lw ld lr = done refl h.going.table (h.drivers ∙ ap (λ (e : Ends). e.drivers) whole) h.outputs_same h.dffs_same (h.rams_count ∙ ap (λ (e : Ends). length e.rams) whole) h.below lw
+  pub ending_ends : cells n ≤ i → length ws ≡ length ws₀ → length dffs ≡ length dffs₀ → length rams ≡ length rams₀ → EndsDone n at w₀ ws₀ t₀ dffs₀ rams₀ w ws dffs rams (Some so)
+  ending_ends l lw ld lr = done so refl h.going.table (h.drivers ∙ ap (λ (e : Ends). e.drivers) whole) h.outputs_same h.dffs_same (h.rams_count ∙ ap (λ (e : Ends). length e.rams) whole) h.below lw
       (rows_end 3 (step2 n).flops (record_row n) i dffs h.records record_words (record_of (step2 n) (step3 n)) no_record
       (λ c m. omega (arith, l, (dff_cell n acc c m).0))
       (λ c m. refl)
@@ -131,10 +131,10 @@ module _ (n : Netlist) (at : ℕ) (w₀ ws₀ : List ℕ) (t₀ : Tally) (dffs�
     no_ram_lem nr = by_test (0 <? count i s.rams) (λ y. absurd (nr ((holding n acc i h.inside).ram_only i (ltb-true 0 (count i s.rams) y)).1))
         (λ f. omega (arith, ltb-false 0 (count i s.rams) f))
 
-    flop_drivers : kind_of n i ≡ dff → (flop_made n (drafted ws so.tally) i).drivers ≡ (ends_at n (suc i)).drivers
+    flop_drivers : kind_of n i ≡ dff → (flop_made n (drafted ws so) i).drivers ≡ (ends_at n (suc i)).drivers
     flop_drivers k = ap (λ (ds : List Driver). (flop_made n ds i).drivers) h.drivers ∙ sym (ap (λ (e : Ends). e.drivers) (ends_next n i ∙ flop_law n acc s i l k))
 
-    memory_drivers : kind_of n i ≡ ram → (ram_made n (drafted ws so.tally) i 32).drivers ≡ (ends_at n (suc i)).drivers
+    memory_drivers : kind_of n i ≡ ram → (ram_made n (drafted ws so) i 32).drivers ≡ (ends_at n (suc i)).drivers
     memory_drivers k = ap (λ (ds : List Driver). (ram_made n ds i 32).drivers) h.drivers ∙ sym (ap (λ (e : Ends). e.drivers) (ends_next n i) ∙ ram_drivers n acc s i l k)
 
     needs_pins : (ds : List Driver) → ds ≡ (ends_at n (suc i)).drivers → length ws < 3 * length ds → length ws < 3 * length (step3 n).drivers
@@ -143,40 +143,38 @@ module _ (n : Netlist) (at : ℕ) (w₀ ws₀ : List ℕ) (t₀ : Tally) (dffs�
     module _ (w' ws' dffs' rams' : List ℕ) (r : Added) where
       -- ---- it goes on
       abbrev Next : Type 0
-      Next = Ending n at w₀ ws₀ t₀ dffs₀ rams₀ w' ws' dffs' rams' (suc i) r
+      Next = Ending n at w₀ ws₀ t₀ dffs₀ rams₀ w' ws' dffs' rams' (suc i) r.tally
 
-      flop_next_lem : kind_of n i ≡ dff → FlopDone n i at w ws so.tally dffs w' ws' dffs' r → rams' ≡ rams → r.fits ≡ true → Next
-      flop_next_lem k d er e = record {
+      flop_next_lem : kind_of n i ≡ dff → FlopDone n i at w ws so dffs w' ws' dffs' (Some r) → rams' ≡ rams → Next
+      flop_next_lem k d er = record {
         inside = omega (arith, l);
-        going = going_after n at m w ws so.tally w' ws' r h.going d.step e (flop_keeps n (drafted ws so.tally) i);
-        fits = e;
-        drivers = step_drivers at m w ws so.tally w' ws' r d.step e ∙ flop_drivers k;
-        below = below_trans h.below (step_below at m w ws so.tally w' ws' r d.step e);
-        outputs_same = ends.outputs ∙ h.outputs_same;
-        dffs_same = ends.dffs ∙ h.dffs_same;
-        rams_count = ends.rams ∙ h.rams_count ∙ ap length (sym (flop_rams n acc i l k));
+        going = going_after n at m w ws so w' ws' r h.going e (flop_keeps n (drafted ws so) i);
+        drivers = e.drivers ∙ flop_drivers k;
+        below = below_trans h.below e.below;
+        outputs_same = e.ends.outputs ∙ h.outputs_same;
+        dffs_same = e.ends.dffs ∙ h.dffs_same;
+        rams_count = e.ends.rams ∙ h.rams_count ∙ ap length (sym (flop_rams n acc i l k));
         records = rows_write 3 (step2 n).flops (record_row n) i dffs h.records (dff_once n acc) (place i (step2 n).flops) at_place.0 at_place.1
-            (λ j. get_or (record_words (flop_record n (drafted ws so.tally) i)) j 0) (λ j b. ap (λ (ds : List Driver). get_or (record_words (flop_record n ds i)) j 0) h.drivers) dffs' (d.row e);
+            (λ j. get_or (record_words (flop_record n (drafted ws so) i)) j 0) (λ j b. ap (λ (ds : List Driver). get_or (record_words (flop_record n ds i)) j 0) h.drivers) dffs' d.row;
         rows = subst (λ (x : List ℕ). Rows 123 x (ram_row n) (suc i) rams') (sym (flop_rams n acc i l k))
             (subst (Rows 123 s.rams (ram_row n) (suc i)) (sym er) (rows_skip 123 s.rams (ram_row n) i rams h.rows (no_ram_lem (λ k'. clash (cc)))));
-        rams_begun = omega (arith, ends.rams, h.rams_begun);
-        rams_room = omega (arith, ends.rams, h.rams_room, ap length er);
+        rams_begun = omega (arith, e.ends.rams, h.rams_begun);
+        rams_room = omega (arith, e.ends.rams, h.rams_room, ap length er);
       }
         where
           m : Made
-          m = start_at (flop_made n (drafted ws so.tally) i).drivers (flop_made n (drafted ws so.tally) i).second
+          m = start_at (flop_made n (drafted ws so) i).drivers (flop_made n (drafted ws so) i).second
 
-          ends : SameEnds so.tally r.tally
-          ends = step_ends at m w ws so.tally w' ws' r d.step e
+          e : Extended at m w ws so w' ws' r
+          e = extended at m w ws so w' ws' r d.step
 
           at_place : (place i (step2 n).flops < length (step2 n).flops) × (get_or (step2 n).flops (place i (step2 n).flops) 0 ≡ i)
           at_place = place_at i (step2 n).flops (omega (arith, dff_has n acc i l k))
 
-      plain_next' : (kind_of n i ≡ dff → ⊥) → (kind_of n i ≡ ram → ⊥) → r.fits ≡ true → r.tally ≡ so.tally → w' ≡ w → ws' ≡ ws → dffs' ≡ dffs → rams' ≡ rams → Next
-      plain_next' nd nr e et ew ews ed er = record {
+      plain_next' : (kind_of n i ≡ dff → ⊥) → (kind_of n i ≡ ram → ⊥) → r.tally ≡ so → w' ≡ w → ws' ≡ ws → dffs' ≡ dffs → rams' ≡ rams → Next
+      plain_next' nd nr et ew ews ed er = record {
         inside = omega (arith, l);
         going = subst (λ (x : List ℕ). Going n at x ws' r.tally) (sym ew) (subst (λ (x : List ℕ). Going n at w x r.tally) (sym ews) (subst (Going n at w ws) (sym et) h.going));
-        fits = e;
         drivers = ap₂ drafted ews et ∙ h.drivers ∙ sym (ap (λ (x : Ends). x.drivers) (plain-next n acc i l nd nr));
         below = subst (SameBelow at w₀) (sym ew) h.below;
         outputs_same = ap (λ (x : Tally). x.outputs) et ∙ h.outputs_same;
@@ -192,38 +190,37 @@ module _ (n : Netlist) (at : ℕ) (w₀ ws₀ : List ℕ) (t₀ : Tally) (dffs�
       -- a RAM, its row at k of the list that it is then in
       row_next : kind_of n i ≡ ram → (t : Tally) → Going n at w ws t → drafted ws t ≡ s.drivers → t.outputs ≡ t₀.outputs → t.dffs ≡ t₀.dffs → t.rams ≡ length (insert s.rams i)
           → length (step2 n).rams ≤ t.rams → (k : ℕ) → k < length (insert s.rams i) → get_or (insert s.rams i) k 0 ≡ i → Rows 123 (insert s.rams i) (ram_row n) i rams
-          → RowDone n i k at w ws t rams w' ws' rams' r → dffs' ≡ dffs → r.fits ≡ true → Next
-      row_next kd t g ed eo ef er lb k lk ek rows d edf e = record {
+          → RowDone n i k at w ws t rams w' ws' rams' (Some r) → dffs' ≡ dffs → Next
+      row_next kd t g ed eo ef er lb k lk ek rows d edf = record {
         inside = omega (arith, l);
-        going = going_after n at m w ws t w' ws' r g d.step e (ram_keeps n (drafted ws t) i);
-        fits = e;
-        drivers = step_drivers at m w ws t w' ws' r d.step e ∙ ap (λ (ds : List Driver). (ram_made n ds i 32).drivers) ed
+        going = going_after n at m w ws t w' ws' r g e (ram_keeps n (drafted ws t) i);
+        drivers = e.drivers ∙ ap (λ (ds : List Driver). (ram_made n ds i 32).drivers) ed
             ∙ sym (ap (λ (x : Ends). x.drivers) (ends_next n i) ∙ ram_drivers n acc s i l kd);
-        below = below_trans h.below (step_below at m w ws t w' ws' r d.step e);
-        outputs_same = ends.outputs ∙ eo;
-        dffs_same = ends.dffs ∙ ef;
-        rams_count = ends.rams ∙ er ∙ ap length (sym (with_rams n acc i l kd));
+        below = below_trans h.below e.below;
+        outputs_same = e.ends.outputs ∙ eo;
+        dffs_same = e.ends.dffs ∙ ef;
+        rams_count = e.ends.rams ∙ er ∙ ap length (sym (with_rams n acc i l kd));
         records = subst (Rows 3 (step2 n).flops (record_row n) (suc i)) (sym edf) (rows_skip 3 (step2 n).flops (record_row n) i dffs h.records (no_flop (λ k'. clash (cc))));
         rows = subst (λ (x : List ℕ). Rows 123 x (ram_row n) (suc i) rams') (sym (with_rams n acc i l kd)) written;
-        rams_begun = omega (arith, ends.rams, lb);
-        rams_room = omega (arith, ends.rams, er, written.room);
+        rams_begun = omega (arith, e.ends.rams, lb);
+        rams_room = omega (arith, e.ends.rams, er, written.room);
       }
         where
           m : Made
           m = ram_made n (drafted ws t) i 32
 
-          ends : SameEnds t r.tally
-          ends = step_ends at m w ws t w' ws' r d.step e
+          e : Extended at m w ws t w' ws' r
+          e = extended at m w ws t w' ws' r d.step
 
           once : (x : ℕ) → count x (insert s.rams i) ≤ 1
           once x = insert-once s.rams i x (holding n acc i h.inside).ram_once
 
           written : Rows 123 (insert s.rams i) (ram_row n) (suc i) rams'
-          written = rows_write 123 (insert s.rams i) (ram_row n) i rams rows once k lk ek (ram_word n (drafted ws t) i) (λ j b. ap (λ (ds : List Driver). ram_word n ds i j) ed) rams' (d.row e)
+          written = rows_write 123 (insert s.rams i) (ram_row n) i rams rows once k lk ek (ram_word n (drafted ws t) i) (λ j b. ap (λ (ds : List Driver). ram_word n ds i j) ed) rams' d.row
 
-      memory_next : kind_of n i ≡ ram → RamDone n i at w ws so.tally rams w' ws' rams' r → dffs' ≡ dffs → r.fits ≡ true → Next
-      memory_next k (begun m d) ed e = row_next k so.tally h.going h.drivers h.outputs_same h.dffs_same (h.rams_count ∙ ap length (sym same)) h.rams_begun
-          p (omega (arith, found.0, ls.longer, ap length same)) (ap (λ (x : List ℕ). get_or x p 0) same ∙ stands) (subst (λ (x : List ℕ). Rows 123 x (ram_row n) i rams) (sym same) h.rows) d ed e
+      memory_next : kind_of n i ≡ ram → RamDone n i at w ws so rams w' ws' rams' (Some r) → dffs' ≡ dffs → Next
+      memory_next k (begun m d) ed = row_next k so h.going h.drivers h.outputs_same h.dffs_same (h.rams_count ∙ ap length (sym same)) h.rams_begun
+          p (omega (arith, found.0, ls.longer, ap length same)) (ap (λ (x : List ℕ). get_or x p 0) same ∙ stands) (subst (λ (x : List ℕ). Rows 123 x (ram_row n) i rams) (sym same) h.rows) d ed
         where
           ls : Listed n acc i s.rams
           ls = listed n acc i h.inside
@@ -239,50 +236,50 @@ module _ (n : Netlist) (at : ℕ) (w₀ ws₀ : List ℕ) (t₀ : Tally) (dffs�
 
           same : insert s.rams i ≡ s.rams
           same = insert_old s.rams i (subst (λ (x : ℕ). 0 < count x s.rams) stands (at_in s.rams p (omega (arith, found.0, ls.longer))))
-      memory_next k (fresh z room d) ed e = row_next k (ram_counted so.tally) (going_more n at w ws so.tally (ram_counted so.tally) h.going refl) h.drivers h.outputs_same h.dffs_same
-          (omega (arith, h.rams_count, ap length more, snoc_length s.rams i 0)) (omega (arith, h.rams_begun)) so.tally.rams (omega (arith, h.rams_count, ap length more, snoc_length s.rams i 0))
+      memory_next k (fresh z room d) ed = row_next k (ram_counted so) (going_more n at w ws so (ram_counted so) h.going refl) h.drivers h.outputs_same h.dffs_same
+          (omega (arith, h.rams_count, ap length more, snoc_length s.rams i 0)) (omega (arith, h.rams_begun)) so.rams (omega (arith, h.rams_count, ap length more, snoc_length s.rams i 0))
           (ap₂ (λ (x : List ℕ) (j : ℕ). get_or x j 0) more h.rams_count ∙ snoc_at s.rams i 0)
-          (subst (λ (x : List ℕ). Rows 123 x (ram_row n) i rams) (sym more) (rows_more 123 s.rams (ram_row n) i rams h.rows i (omega arith) (omega (arith, room, h.rams_count)))) d ed e
+          (subst (λ (x : List ℕ). Rows 123 x (ram_row n) i rams) (sym more) (rows_more 123 s.rams (ram_row n) i rams h.rows i (omega arith) (omega (arith, room, h.rams_count)))) d ed
         where
           more : insert s.rams i ≡ s.rams ++ (i ∷ [])
           more = insert_new s.rams i ((listed n acc i h.inside).new i z (omega arith))
-      memory_next k (short z b f x y v) ed e = true≢false r.fits e f
+      memory_next k (short z b f x y v) ed = let z' : Some r ≡ None = f in clash (cc)
 
-      next_by : CellDone n i at w ws so.tally dffs rams w' ws' dffs' rams' r → r.fits ≡ true → Next
-      next_by (flopped k d er) e = flop_next_lem k d er e
-      next_by (remembered k d ed) e = memory_next k d ed e
-      next_by (passed nd nr f et ew ews ed er) e = plain_next' nd nr e et ew ews ed er
+      next_by : CellDone n i at w ws so dffs rams w' ws' dffs' rams' (Some r) → Next
+      next_by (flopped k d er) = flop_next_lem k d er
+      next_by (remembered k d ed) = memory_next k d ed
+      next_by (passed nd nr a e et ew ews ed er) = let q : r ≡ a = cc in plain_next' nd nr (ap (λ (x : Added). x.tally) q ∙ et) ew ews ed er
 
-      pub ending_goes_on : CellDone n i at w ws so.tally dffs rams w' ws' dffs' rams' r → r.fits ≡ true → Ending n at w₀ ws₀ t₀ dffs₀ rams₀ w' ws' dffs' rams' (i + 1) r
-      ending_goes_on d e = subst (λ (x : ℕ). Ending n at w₀ ws₀ t₀ dffs₀ rams₀ w' ws' dffs' rams' x r) (sym (add-one i)) (next_by d e)
+      pub ending_goes_on : CellDone n i at w ws so dffs rams w' ws' dffs' rams' (Some r) → Ending n at w₀ ws₀ t₀ dffs₀ rams₀ w' ws' dffs' rams' (i + 1) r.tally
+      ending_goes_on d = subst (λ (x : ℕ). Ending n at w₀ ws₀ t₀ dffs₀ rams₀ w' ws' dffs' rams' x r.tally) (sym (add-one i)) (next_by d)
 
-      -- ---- it does not fit
-      module _ (lw : length w ≡ length w₀) (lws : length ws ≡ length ws₀) (ld : length dffs ≡ length dffs₀) (lr : length rams ≡ length rams₀) (e : r.fits ≡ false) where
-        pins_out : (m : Made) (t : Tally) → Extends at m w ws t w' ws' r → m.drivers ≡ (ends_at n (suc i)).drivers → length dffs' ≡ length dffs → length rams' ≡ length rams
-            → EndsDone n at w₀ ws₀ t₀ dffs₀ rams₀ w' ws' dffs' rams' (record { fits = false; tally = r.tally })
-        pins_out m t x em l1 l2 = let g = step_long at m w ws t w' ws' r x in
-            no_pins refl (omega (arith, needs_pins m.drivers em (step_short at m w ws t w' ws' r x e), lws)) (g.0 ∙ lw) (g.1 ∙ lws) (l1 ∙ ld) (l2 ∙ lr)
+    -- ---- it does not fit
+    module _ (w' ws' dffs' rams' : List ℕ) (lw : length w ≡ length w₀) (lws : length ws ≡ length ws₀) (ld : length dffs ≡ length dffs₀) (lr : length rams ≡ length rams₀) where
+      pins_out : (m : Made) (t : Tally) → Extends at m w ws t w' ws' None → m.drivers ≡ (ends_at n (suc i)).drivers → length dffs' ≡ length dffs → length rams' ≡ length rams
+          → EndsDone n at w₀ ws₀ t₀ dffs₀ rams₀ w' ws' dffs' rams' None
+      pins_out m t x em l1 l2 = let g = step_long at m w ws t w' ws' None x in
+          no_pins refl (omega (arith, needs_pins m.drivers em (step_short at m w ws t w' ws' x), lws)) (g.0 ∙ lw) (g.1 ∙ lws) (l1 ∙ ld) (l2 ∙ lr)
 
-        memory_fails : kind_of n i ≡ ram → RamDone n i at w ws so.tally rams w' ws' rams' r → dffs' ≡ dffs → EndsDone n at w₀ ws₀ t₀ dffs₀ rams₀ w' ws' dffs' rams' (record { fits = false; tally = r.tally })
-        memory_fails k (begun m d) ed = pins_out (ram_made n (drafted ws so.tally) i 32) so.tally d.step (memory_drivers k) (ap length ed) d.long
-        memory_fails k (fresh z room d) ed = pins_out (ram_made n (drafted ws so.tally) i 32) (ram_counted so.tally) d.step (memory_drivers k) (ap length ed) d.long
-        memory_fails k (short z b f x y v) ed = no_rams refl
-            (omega (
-              arith,
-              b,
-              lr,
-              h.rams_count,
-              ap length (with_rams n acc i l k),
-              ap length (insert_new s.rams i ((listed n acc i h.inside).new i z (omega arith))),
-              snoc_length s.rams i 0,
-              (further_whole n (suc i) (omega (arith, l))).rams,
-            ))
-            (x ∙ lw) (y ∙ lws) (ap length ed ∙ ld) (v ∙ lr)
+      memory_fails : kind_of n i ≡ ram → RamDone n i at w ws so rams w' ws' rams' None → dffs' ≡ dffs → EndsDone n at w₀ ws₀ t₀ dffs₀ rams₀ w' ws' dffs' rams' None
+      memory_fails k (begun m d) ed = pins_out (ram_made n (drafted ws so) i 32) so d.step (memory_drivers k) (ap length ed) d.long
+      memory_fails k (fresh z room d) ed = pins_out (ram_made n (drafted ws so) i 32) (ram_counted so) d.step (memory_drivers k) (ap length ed) d.long
+      memory_fails k (short z b f x y v) ed = no_rams refl
+          (omega (
+            arith,
+            b,
+            lr,
+            h.rams_count,
+            ap length (with_rams n acc i l k),
+            ap length (insert_new s.rams i ((listed n acc i h.inside).new i z (omega arith))),
+            snoc_length s.rams i 0,
+            (further_whole n (suc i) (omega (arith, l))).rams,
+          ))
+          (x ∙ lw) (y ∙ lws) (ap length ed ∙ ld) (v ∙ lr)
 
-        pub ending_fails : CellDone n i at w ws so.tally dffs rams w' ws' dffs' rams' r → EndsDone n at w₀ ws₀ t₀ dffs₀ rams₀ w' ws' dffs' rams' (record { fits = false; tally = r.tally })
-        ending_fails (flopped k d er) = pins_out (start_at (flop_made n (drafted ws so.tally) i).drivers (flop_made n (drafted ws so.tally) i).second) so.tally d.step (flop_drivers k) d.long (ap length er)
-        ending_fails (remembered k d ed) = memory_fails k d ed
-        ending_fails (passed nd nr f et ew ews ed er) = true≢false r.fits f e
+      pub ending_fails : CellDone n i at w ws so dffs rams w' ws' dffs' rams' None → EndsDone n at w₀ ws₀ t₀ dffs₀ rams₀ w' ws' dffs' rams' None
+      ending_fails (flopped k d er) = pins_out (start_at (flop_made n (drafted ws so) i).drivers (flop_made n (drafted ws so) i).second) so d.step (flop_drivers k) d.long (ap length er)
+      ending_fails (remembered k d ed) = memory_fails k d ed
+      ending_fails (passed nd nr a e et ew ews ed er) = let z : None ≡ Some a = e in clash (cc)
 
 -- ---- one cell, by its kind
 kind_none : (k : ℕ) → (k ≡ 8 → ⊥) → (k ≡ 9 → ⊥) → (k ≡ 11 → ⊥) → (kind_at k ≡ dff → ⊥) × (kind_at k ≡ ram → ⊥)
@@ -301,19 +298,18 @@ kind_none (suc (suc (suc (suc (suc (suc (suc (suc (suc (suc (suc zero)))))))))))
 kind_none (suc (suc (suc (suc (suc (suc (suc (suc (suc (suc (suc (suc zero)))))))))))) a b c = (λ e. clash (cc), λ e. clash (cc))
 kind_none (suc (suc (suc (suc (suc (suc (suc (suc (suc (suc (suc (suc (suc k))))))))))))) a b c = (λ e. clash (cc), λ e. clash (cc))
 
-module _ (kinds : List ℕ) (c : ℕ) where
-  pub kind_dff : get_or kinds c 0 ≡ 8 → kind_at (get_or kinds c 0) ≡ dff
-  kind_dff e = ap kind_at e
+module _ (n : Netlist) (c : ℕ) where
+  -- DFF and DFFSR
+  pub kind_dff : 8 ≤ get_or n.kinds c 0 → get_or n.kinds c 0 < 10 → kind_of n c ≡ dff
+  kind_dff a b = by_test (get_or n.kinds c 0 == 8) (λ y. ap kind_at (eqb-true (get_or n.kinds c 0) 8 y))
+      (λ f. let e : get_or n.kinds c 0 ≡ 9 = omega (arith, a, b, eqb-false (get_or n.kinds c 0) 8 f) in ap kind_at e)
 
-  pub kind_dffsr : get_or kinds c 0 ≡ 9 → kind_at (get_or kinds c 0) ≡ dff
-  kind_dffsr e = ap kind_at e
-
-  pub kind_ram : get_or kinds c 0 ≡ 11 → kind_at (get_or kinds c 0) ≡ ram
+  pub kind_ram : get_or n.kinds c 0 ≡ 11 → kind_of n c ≡ ram
   kind_ram e = ap kind_at e
 
-pub cell_passed : (kinds starts list pins nets : List ℕ) (c at : ℕ) (w ws : List ℕ) (t : Tally) (dffs rams : List ℕ) (r : Added) → (get_or kinds c 0 ≡ 8 → ⊥) → (get_or kinds c 0 ≡ 9 → ⊥) → (get_or kinds c 0 ≡ 11 → ⊥)
-    → r.fits ≡ true → r.tally ≡ t → CellDone (tables kinds starts list pins nets) c at w ws t dffs rams w ws dffs rams r
-cell_passed kinds starts list pins nets c at w ws t dffs rams r a b d f e = let k = kind_none (get_or kinds c 0) a b d in passed k.0 k.1 f e refl refl refl refl
+pub cell_passed : (n : Netlist) (c at : ℕ) (w ws : List ℕ) (t : Tally) (dffs rams : List ℕ) (l : Literal) → (get_or n.kinds c 0 ≡ 8 → ⊥) → (get_or n.kinds c 0 ≡ 9 → ⊥) → (get_or n.kinds c 0 ≡ 11 → ⊥)
+    → CellDone n c at w ws t dffs rams w ws dffs rams (Some (record { lit = l; tally = t }))
+cell_passed n c at w ws t dffs rams l a b d = let k = kind_none (get_or n.kinds c 0) a b d in passed k.0 k.1 (record { lit = l; tally = t }) refl refl refl refl refl refl
 
 -- ---- the state that steps 1 and 2 leave, with room for r graph pins
 pub going_begins : (n : Netlist) (r : ℕ) (w ws : List ℕ) (t : Tally) → Accepted n → Fits n → 8 * size n + 8 * r + 1024 ≤ length w → Table (index_at (size n) r) w ws t → drafted ws t ≡ (step2 n).drivers

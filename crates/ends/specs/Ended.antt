@@ -1,5 +1,5 @@
 -- What step 3 leaves of the tables.
-use Rattle.std.specs.Prelude.{◌≡◌, true, false, List, map, ℕ, ◌*◌, ◌<◌, length}
+use Rattle.std.specs.Prelude.{◌≡◌, Option, Some, None, List, map, ℕ, ◌*◌, ◌<◌, length}
 use Rattle.laws.specs.Lists.{flat, over, upto}
 use Rattle.laws.specs.Words.{SameBelow, filled}
 use Rattle.rules.specs.declared.Tally.{Tally}
@@ -7,7 +7,6 @@ use Rattle.rules.specs.Netlist.{Netlist, kind_of, dff, ram}
 use Rattle.rules.specs.Tables.{record_words, ram_words}
 use Rattle.rules.specs.Build.{Ends, end_cell, start3, step2, step3, record_of, ram_row_of}
 use Rattle.drafts.specs.declared.Added.{Added}
-use Rattle.drafts.specs.declared.Counted.{Counted}
 use Rattle.drafts.specs.Table.{Table, drafted}
 use Rattle.flops.specs.Flopped.{FlopDone}
 use Rattle.memories.specs.Remembered.{RamDone}
@@ -17,10 +16,10 @@ unfoldable pub ends_at : Netlist → ℕ → Ends
 ends_at n i = over (end_cell n (step2 n).lits) (start3 (step2 n)) (upto i)
 
 -- what one cell leaves: a flip-flop, a RAM, or a cell of which step 3 makes nothing
-pub data CellDone (n : Netlist) (c at : ℕ) (w ws : List ℕ) (t : Tally) (dffs rams w' ws' dffs' rams' : List ℕ) (r : Added) : Type 0 where
+pub data CellDone (n : Netlist) (c at : ℕ) (w ws : List ℕ) (t : Tally) (dffs rams w' ws' dffs' rams' : List ℕ) (r : Option Added) : Type 0 where
   flopped : kind_of n c ≡ dff → FlopDone n c at w ws t dffs w' ws' dffs' r → rams' ≡ rams → CellDone n c at w ws t dffs rams w' ws' dffs' rams' r
   remembered : kind_of n c ≡ ram → RamDone n c at w ws t rams w' ws' rams' r → dffs' ≡ dffs → CellDone n c at w ws t dffs rams w' ws' dffs' rams' r
-  passed : (kind_of n c ≡ dff → ⊥) → (kind_of n c ≡ ram → ⊥) → r.fits ≡ true → r.tally ≡ t → w' ≡ w → ws' ≡ ws → dffs' ≡ dffs → rams' ≡ rams
+  passed : (kind_of n c ≡ dff → ⊥) → (kind_of n c ≡ ram → ⊥) → (a : Added) → r ≡ Some a → a.tally ≡ t → w' ≡ w → ws' ≡ ws → dffs' ≡ dffs → rams' ≡ rams
       → CellDone n c at w ws t dffs rams w' ws' dffs' rams' r
 
 -- the records of all flip-flops, and the rows of all RAMs, in words
@@ -31,11 +30,11 @@ abbrev pub all_rows : Netlist → List ℕ
 all_rows n = flat ram_words (map (ram_row_of n (step2 n) (step3 n)) (step3 n).rams)
 
 -- all of step 3 is there; or a table has no room for what the whole needs
-pub data EndsDone (n : Netlist) (at : ℕ) (w ws : List ℕ) (t : Tally) (dffs rams w' ws' dffs' rams' : List ℕ) (r : Counted) : Type 0 where
-  done : r.fits ≡ true → Table at w' ws' r.tally → drafted ws' r.tally ≡ (step3 n).drivers → r.tally.outputs ≡ t.outputs → r.tally.dffs ≡ t.dffs
-      → r.tally.rams ≡ length (step3 n).rams → SameBelow at w w' → length ws' ≡ length ws → dffs' ≡ filled (all_records n) (length dffs) → rams' ≡ filled (all_rows n) (length rams)
+pub data EndsDone (n : Netlist) (at : ℕ) (w ws : List ℕ) (t : Tally) (dffs rams w' ws' dffs' rams' : List ℕ) (r : Option Tally) : Type 0 where
+  done : (t' : Tally) → r ≡ Some t' → Table at w' ws' t' → drafted ws' t' ≡ (step3 n).drivers → t'.outputs ≡ t.outputs → t'.dffs ≡ t.dffs
+      → t'.rams ≡ length (step3 n).rams → SameBelow at w w' → length ws' ≡ length ws → dffs' ≡ filled (all_records n) (length dffs) → rams' ≡ filled (all_rows n) (length rams)
       → EndsDone n at w ws t dffs rams w' ws' dffs' rams' r
-  no_pins : r.fits ≡ false → length ws < 3 * length (step3 n).drivers → length w' ≡ length w → length ws' ≡ length ws → length dffs' ≡ length dffs → length rams' ≡ length rams
+  no_pins : r ≡ None → length ws < 3 * length (step3 n).drivers → length w' ≡ length w → length ws' ≡ length ws → length dffs' ≡ length dffs → length rams' ≡ length rams
       → EndsDone n at w ws t dffs rams w' ws' dffs' rams' r
-  no_rams : r.fits ≡ false → length rams < 123 * length (step3 n).rams → length w' ≡ length w → length ws' ≡ length ws → length dffs' ≡ length dffs → length rams' ≡ length rams
+  no_rams : r ≡ None → length rams < 123 * length (step3 n).rams → length w' ≡ length w → length ws' ≡ length ws → length dffs' ≡ length dffs → length rams' ≡ length rams
       → EndsDone n at w ws t dffs rams w' ws' dffs' rams' r

@@ -4,7 +4,7 @@ use mathlib.Core.Bool.{Bool, ◌&&◌}
 use mathlib.Core.List.{List}
 use Prim.Native.Nat.{ℕ, ◌+◌, ◌*◌, ◌/◌, ◌%◌, ◌<◌, ◌≤◌}
 use native.Mathlib.Omega.{arith}
-use borrow.Author.Tests.{eqb-true, eqb-false, lt-ltb, le-ltb}
+use borrow.Author.Tests.{eqb-true, eqb-false}
 use lib.ListN.{length, get_or, set, length-set}
 use lib.Seq.{get_or-set_same, get_or-set_other}
 use Rattle.std.specs.Prelude.{◌==◌}
@@ -16,13 +16,6 @@ use Rattle.walk.specs.State.{tag_of, first_of, second_of, Operands}
 use Rattle.walk.proofs.Leads.{operands_fit}
 use Rattle.evaluate.specs.Bits.{pin_bit, literal_word, Filling}
 use Rattle.evaluate.proofs.Pins.{bit-gate, bit_constant, bit_source, turned_word, and_word_lem, and_second}
-
--- ---- a source's word
-pub source_off : (sources : List ℕ) (u s : ℕ) → s ≡ get_or sources u 0 → s ≡ 0 → 0 ≡ one (source_of sources u)
-source_off sources u s e z = sym (ap one (le-ltb 0 (get_or sources u 0) (omega arith)))
-
-pub source_on : (sources : List ℕ) (u s : ℕ) → s ≡ get_or sources u 0 → (s ≡ 0 → ⊥) → 1 ≡ one (source_of sources u)
-source_on sources u s e n = sym (ap one (lt-ltb 0 (get_or sources u 0) (omega arith)))
 
 module _ (ws sources bits : List ℕ) (u : ℕ) (g : Filling ws sources bits u) (l : u < length bits) where
   abbrev m : ℕ
@@ -104,5 +97,5 @@ module _ (ws sources bits : List ℕ) (u : ℕ) (g : Filling ws sources bits u) 
           subst (λ (n : ℕ). get_or (set bits u v) n 0 ≡ one (pin_bit ws sources (length bits) n)) (sym q) (get_or-set_same bits u v 0 l ∙ e))
           (λ f. get_or-set_other bits u w v 0 (eqb-false w u f) ∙ g.done w (omega (arith, eqb-false w u f)))
 
-pub fills_end : (ws sources bits : List ℕ) (u n : ℕ) → Filling ws sources bits u → u ≤ length bits → length bits ≤ u → length bits ≡ n → Filling ws sources bits n
-fills_end ws sources bits u n g a b e = let q : u ≡ n = omega arith in rw q at g
+pub fills_end : (ws sources bits : List ℕ) (u n : ℕ) → Filling ws sources bits u → u ≡ n → Filling ws sources bits n
+fills_end ws sources bits u n g e = rw e at g

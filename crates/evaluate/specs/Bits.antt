@@ -1,14 +1,14 @@
 -- What an evaluation answers and leaves, and its bits as words.
-use Rattle.std.specs.Prelude.{◌≡◌, Bool, true, ◌&&◌, List, ℕ, ◌+◌, ◌-◌, ◌*◌, ◌/◌, ◌%◌, ◌<◌, ◌≤◌, length, get_or, ◌==◌}
+use Rattle.std.specs.Prelude.{◌≡◌, Result, Bool, true, ◌&&◌, List, ℕ, ◌+◌, ◌-◌, ◌*◌, ◌/◌, ◌%◌, ◌<◌, ◌≤◌, length, get_or, ◌==◌}
 use Rattle.laws.specs.Tests.{one}
-use Rattle.rules.specs.declared.Done.{Done}
+use Rattle.rules.specs.declared.Refusal.{Refusal}
 use Rattle.rules.specs.Work.{bit}
 use Rattle.rules.specs.Tables.{held}
 use Rattle.rules.specs.Refusals.{drivers_fit}
 use Rattle.rules.specs.Answers.{done_of, drivers_graph, source_of, evaluate_number, pin_bits}
 
 -- the whole promise: bits is the table as it was lent, bits' as it comes back
-pub record Evaluated (ws : List ℕ) (pins : ℕ) (sources bits bits' : List ℕ) (r : Done) : Type 0 where
+pub record Evaluated (ws : List ℕ) (pins : ℕ) (sources bits bits' : List ℕ) (r : Result (Unit {0}) Refusal) : Type 0 where
   pub answer : r ≡ done_of (evaluate_number pins ws sources (length bits))
   pub held_bits : bits' ≡ held (evaluate_number pins ws sources (length bits)) (pin_bits pins ws sources) (length bits)
 

@@ -236,10 +236,7 @@ module _ (ws : List ℕ) (m : ℕ) (s l : List ℕ) (u : ℕ) (fit : Operands ws
 pub places_end : (ws : List ℕ) (m : ℕ) (s l : List ℕ) (u : ℕ) → Placing ws m s l u → u ≤ m → m ≤ u → Placing ws m s l m
 places_end ws m s l u g a b = let e : u ≡ m = omega arith in rw e at g
 
--- ---- one word, and the two of a gate, as the code reads them
-pub put_one : (s l : List ℕ) (u x n : ℕ) → n ≡ get_or s (x / 2) 0 → fan (set s (x / 2) (n - 1)) (set l (n - 1) u) ≡ put_before u (fan s l) (x / 2)
-put_one s l u x n e = ap (λ (k : ℕ). fan (set s (x / 2) (k - 1)) (set l (k - 1) u)) e
-
+-- ---- the two words of a gate, as the code reads them
 module _ (ws s l : List ℕ) (u t : ℕ) (r : Roomy ws s l u) (et : t ≡ get_or ws (3 * u) 0) where
   pub gate-none : (t ≡ 1 → ⊥) → fan s l ≡ over (put_before u) (fan s l) (operands_of ws u)
   gate-none n = ap (over (put_before u) (fan s l)) (sym (no_operands ws u (λ e. n (et ∙ e))))

@@ -1,15 +1,15 @@
 -- What the fanouts of a driver table are answered and left, and the state of the three passes that make them: count, sum up, fill from the back.
-use Rattle.std.specs.Prelude.{◌≡◌, Bool, List, [], ◌∷◌, map, ℕ, zero, suc, ◌+◌, ◌-◌, ◌*◌, ◌<◌, ◌≤◌, length, get_or, set, if◌then◌else◌, ◌==◌}
+use Rattle.std.specs.Prelude.{◌≡◌, Result, Bool, List, [], ◌∷◌, map, ℕ, zero, suc, ◌+◌, ◌-◌, ◌*◌, ◌<◌, ◌≤◌, length, get_or, set, if◌then◌else◌, ◌==◌}
 use Rattle.laws.specs.Tests.{◌≤?◌, refuse}
 use Rattle.laws.specs.Lists.{count, keep, flat, upto}
-use Rattle.rules.specs.declared.Done.{Done}
+use Rattle.rules.specs.declared.Refusal.{Refusal}
 use Rattle.rules.specs.Build.{down_from, fanouts, fanout_starts, gate_count}
 use Rattle.rules.specs.Tables.{drivers_in, held}
 use Rattle.rules.specs.Answers.{done_of, fanouts_number}
 use Rattle.walk.specs.State.{tag_of, first_of, second_of}
 
 -- the whole promise: s and l are the starts and the lists as they were lent, s' and l' as they come back
-pub record FannedOut (ws : List ℕ) (pins : ℕ) (s l s' l' : List ℕ) (r : Done) : Type 0 where
+pub record FannedOut (ws : List ℕ) (pins : ℕ) (s l s' l' : List ℕ) (r : Result (Unit {0}) Refusal) : Type 0 where
   pub answer : r ≡ done_of (fanouts_number pins ws (length s) (length l))
   pub held_starts : s' ≡ held (fanouts_number pins ws (length s) (length l)) (fanout_starts (drivers_in ws pins)) (length s)
   pub held_lists : l' ≡ held (fanouts_number pins ws (length s) (length l)) (fanouts (drivers_in ws pins)) (length l)

@@ -9,8 +9,8 @@ ghost use Rattle.laws.proofs.Words.{bump};
 ghost use Rattle.walk.specs.State.{Operands};
 ghost use Rattle.fanouts.specs.Fans.{FannedOut, Fanned, operands_of, readings, Countable, sum_to, Summed, fan, put_before, Roomy, Placing};
 
-use rules::Done;
-use walk::fit::drivers_number;
+use rules::Refusal;
+use walk::fit::test_drivers;
 use words::{word, zero};
 
 // One more reader of the pin of the literal l.
@@ -20,8 +20,7 @@ fn count_reader(starts: &mut [u32], l: u32)
     ensures { starts.new ≡ bump starts.old (l / 2) }
 {
     let p = (l / 2) as usize;
-    let n = word(starts, p);
-    starts[p] = n + 1;
+    starts[p] += 1;
 }
 
 // The readings of the pin u, where it is a gate.
@@ -50,10 +49,8 @@ fn count_readers(drivers: &[u32], starts: &mut [u32], m: usize)
     requires starts_value { starts.old ≡ zeros (length starts.old) }
     ensures { starts.new ≡ over bump starts.old (readings drivers.now m) }
 {
-    let mut u = 0;
-    while u < m {
+    for u in 0..m {
         count_gate(drivers, starts, u);
-        u += 1;
     }
 }
 
@@ -64,12 +61,10 @@ fn sum_up(starts: &mut [u32], long: usize)
     ensures { Summed starts.old long starts.new }
 {
     let mut sum: u32 = 0;
-    let mut i = 0;
-    while i < long {
+    for i in 0..long {
         let n = word(starts, i);
         sum += n;
         starts[i] = sum;
-        i += 1;
     }
 }
 
@@ -81,11 +76,9 @@ fn put_reader(starts: &mut [u32], lists: &mut [u32], u: u32, l: u32)
     ensures { fan starts.new lists.new ≡ put_before u (fan starts.old lists.old) (l / 2) }
 {
     let p = (l / 2) as usize;
-    let n = word(starts, p);
-    let at = n - 1;
+    let at = word(starts, p) - 1;
     starts[p] = at;
-    let i = at as usize;
-    lists[i] = u;
+    lists[at as usize] = u;
 }
 
 // The pin u, where it is a gate, into the lists of its operands.
@@ -115,10 +108,8 @@ fn put_readers(drivers: &[u32], starts: &mut [u32], lists: &mut [u32], m: usize)
     requires placing { Placing drivers.now m starts.old lists.old 0 }
     ensures { Placing drivers.now m starts.new lists.new m }
 {
-    let mut u = 0;
-    while u < m {
+    for u in 0..m {
         put_gate(drivers, starts, lists, u);
-        u += 1;
     }
 }
 
@@ -146,19 +137,20 @@ pub fn fan_out(drivers: &[u32], pins: u32, starts: &mut [u32], lists: &mut [u32]
 }
 
 // Each pin's gates, in falling order, and where each pin's list begins.
-pub fn fanouts(drivers: &[u32], pins: u32, starts: &mut [u32], lists: &mut [u32]) -> Done
+pub fn fanouts(
+    drivers: &[u32],
+    pins: u32,
+    starts: &mut [u32],
+    lists: &mut [u32],
+) -> Result<(), Refusal>
     ensures { FannedOut drivers.now pins starts.old lists.old starts.new lists.new result }
 {
     zero(starts);
     zero(lists);
     let n = pins as usize;
-    let long = n + 2;
-    let k = drivers_number(drivers, n, lists.len() <= 33554430, starts.len() == long);
-    if k != 0 {
-        return Done::Refused(k);
-    }
+    test_drivers(drivers, n, lists.len() <= 33554430, starts.len() == n + 2)?;
     if !fan_out(drivers, pins, starts, lists) {
-        return Done::Refused(11);
+        return Err(Refusal::Room);
     }
-    Done::Accepted
+    Ok(())
 }

@@ -43,12 +43,12 @@ use Rattle.flags.proofs.Roots.{flag_end, root_within}
 
 -- ---- one after the other
 -- what flags leave that fit
-record Kept (m at : ℕ) (ds : List Driver) (w ws : List ℕ) (t : Tally) (w' ws' : List ℕ) (t' : Tally) : Type 0 where
-  state : Flagging m at w' ws' t'
-  drivers : drafted ws' t' ≡ ds
-  ends : SameEnds t t'
-  only : FlagsOnly m at w w'
-  long : length ws' ≡ length ws
+pub record Kept (m at : ℕ) (ds : List Driver) (w ws : List ℕ) (t : Tally) (w' ws' : List ℕ) (t' : Tally) : Type 0 where
+  pub state : Flagging m at w' ws' t'
+  pub drivers : drafted ws' t' ≡ ds
+  pub ends : SameEnds t t'
+  pub only : FlagsOnly m at w w'
+  pub long : length ws' ≡ length ws
 
 module _ (m at : ℕ) (ds : List Driver) (w ws : List ℕ) (t : Tally) (w₁ ws₁ : List ℕ) where
   longer_flagged : (es : List Driver) → length ds ≤ length es → Flagged m at ds w ws t w₁ ws₁ None → Flagged m at es w ws t w₁ ws₁ None
@@ -56,7 +56,7 @@ module _ (m at : ℕ) (ds : List Driver) (w ws : List ℕ) (t : Tally) (w₁ ws�
   longer_flagged es l (full a b c d) = full a (omega (arith, b, l)) c d
 
   module _ (u : Tally) where
-    kept : Flagged m at ds w ws t w₁ ws₁ (Some u) → Kept m at ds w ws t w₁ ws₁ u
+    pub kept : Flagged m at ds w ws t w₁ ws₁ (Some u) → Kept m at ds w ws t w₁ ws₁ u
     kept (made v e a b c d f) =
         let s : v ≡ u = cc in
         subst (Kept m at ds w ws t w₁ ws₁) s (record { state = a; drivers = b; ends = c; only = d; long = f })

@@ -1,5 +1,5 @@
 -- What step 3 makes of a flip-flop: the drivers, and the literals of next and enable.
-use Rattle.std.specs.Prelude.{◌≡◌, true, List, ℕ, ◌*◌, ◌<◌, length, get_or}
+use Rattle.std.specs.Prelude.{◌≡◌, Option, Some, None, IfSome, OnSome, List, ℕ, ◌*◌, ◌<◌, length, get_or}
 use Rattle.laws.specs.Lists.{first_or}
 use Rattle.laws.proofs.Indices.{place}
 use Rattle.rules.specs.declared.Driver.{Driver}
@@ -45,9 +45,14 @@ both_reset ds v u r =
 abbrev pub flop_both : List Driver → ℕ → ℕ → ℕ → ℕ → Both
 flop_both ds d a s r = both_reset (both_set ds d a s).drivers (both_set ds d a s).first (both_set ds d a s).second r
 
-pub record Doubles (at : ℕ) (b : Both) (w ws : List ℕ) (t : Tally) (w' ws' : List ℕ) (r : Pair) : Type 0 where
-  pub step : Extends at (start_at b.drivers b.second) w ws t w' ws' (record { fits = r.fits; lit = r.second; tally = r.tally })
-  pub first : r.fits ≡ true → r.first.word ≡ b.first
+-- the second of them, as a step gives it
+abbrev pub second_of : Option Pair → Option Added
+second_of (Some p) = Some (record { lit = p.second; tally = p.tally })
+second_of None = None
+
+pub record Doubles (at : ℕ) (b : Both) (w ws : List ℕ) (t : Tally) (w' ws' : List ℕ) (r : Option Pair) : Type 0 where
+  pub step : Extends at (start_at b.drivers b.second) w ws t w' ws' (second_of r)
+  pub first : IfSome r (λ p. p.first.word ≡ b.first)
 
 -- ---- a flip-flop cell
 abbrev pub flop_clock : Netlist → List Driver → ℕ → Made
@@ -62,7 +67,7 @@ abbrev pub flop_record : Netlist → List Driver → ℕ → Record
 flop_record n ds c = record { next = (flop_made n ds c).first; enable = (flop_made n ds c).second; pin = (step2 n).flop_pin c }
 
 -- all of it is made, and the record stands in the table; or there is no room for it
-pub record FlopDone (n : Netlist) (c at : ℕ) (w ws : List ℕ) (t : Tally) (dffs w' ws' dffs' : List ℕ) (r : Added) : Type 0 where
+pub record FlopDone (n : Netlist) (c at : ℕ) (w ws : List ℕ) (t : Tally) (dffs w' ws' dffs' : List ℕ) (r : Option Added) : Type 0 where
   pub step : Extends at (start_at (flop_made n (drafted ws t) c).drivers (flop_made n (drafted ws t) c).second) w ws t w' ws' r
-  pub row : r.fits ≡ true → Writing dffs (3 * place c (step2 n).flops) (λ j. get_or (record_words (flop_record n (drafted ws t) c)) j 0) 3 dffs'
+  pub row : OnSome r (Writing dffs (3 * place c (step2 n).flops) (λ j. get_or (record_words (flop_record n (drafted ws t) c)) j 0) 3 dffs')
   pub long : length dffs' ≡ length dffs

@@ -1,60 +1,28 @@
 -- The numbers 1, 2 and 12 of a graph, in the code's shape.
-use mathlib.Core.Path.{◌≡◌, refl, sym, ap, ◌∙◌}
+use mathlib.Core.Path.{◌≡◌, sym, ap, ◌∙◌}
 use mathlib.Core.Bool.{Bool, true, false, ◌&&◌}
 use mathlib.Core.List.{List}
-use Prim.Native.Nat.{ℕ, zero, suc, ◌+◌, ◌*◌, ◌≤◌, ◌<◌}
+use Prim.Native.Nat.{ℕ, ◌+◌, ◌*◌}
 use native.Mathlib.Omega.{arith}
 use lib.ListN.{length, get_or}
-use borrow.Author.Tests.{lt-leb, le-leb, leb-true, eq-eqb, ne_eqb, eqb-true}
-use Rattle.std.specs.Prelude.{◌==◌}
+use borrow.Author.Tests.{leb-true, eqb-true}
+use Rattle.std.specs.Prelude.{Ok, Err, ◌==◌}
 use Rattle.laws.specs.Tests.{◌≤?◌}
 use Rattle.laws.specs.Words.{zeros}
 use Rattle.laws.proofs.Tests.{and_l, and_r}
 use Rattle.laws.proofs.Words.{zeros_at, zeros-length}
 use Rattle.rules.specs.declared.GraphCounts.{GraphCounts}
-use Rattle.rules.specs.declared.Done.TheVariants.{Accepted, Refused}
+use Rattle.rules.specs.declared.Refusal.TheVariants.{Bounds, Lengths, Graph as GraphRefused}
 use Rattle.rules.specs.Bounds.{graph_within, stage_work}
 use Rattle.rules.specs.Refusals.{drivers_fit}
-use Rattle.rules.specs.Answers.{graph_fits, graph_number, done_of}
+use Rattle.rules.specs.Answers.{endpoints, graph_long, graph_fits, graph_number, done_of}
 use Rattle.marks.specs.Marking.{Clear}
-use Rattle.graphs.specs.Parts.{Rows, records_ok, lent, long_by, Fitting}
+use Rattle.graphs.specs.Parts.{Rows, records_ok, lent, Fitting}
 use Rattle.graphs.proofs.Records.{in_order}
 
--- ---- 1
-module _ (c : GraphCounts) where
-  pub pins_many : 16777215 < c.pins → false ≡ graph_within c
-  pins_many l = rw (lt-leb c.pins 16777215 l)
-
-  module _ (p : c.pins ≤ 16777215) where
-    pub outputs_many : 1048576 < c.outputs → false ≡ graph_within c
-    outputs_many l = rw (le-leb c.pins 16777215 p, lt-leb c.outputs 1048576 l)
-
-    module _ (o : c.outputs ≤ 1048576) where
-      pub dffs_many : 1048576 < c.dffs → false ≡ graph_within c
-      dffs_many l = rw (le-leb c.pins 16777215 p, le-leb c.outputs 1048576 o, lt-leb c.dffs 1048576 l)
-
-      pub rams_count : c.dffs ≤ 1048576 → (c.rams ≤? 1048576) ≡ graph_within c
-      rams_count l = rw (le-leb c.pins 16777215 p, le-leb c.outputs 1048576 o, le-leb c.dffs 1048576 l)
-
--- ---- 2
-module _ (c : GraphCounts) (d o f k w : ℕ) where
-  pub drivers_differ : (d ≡ 3 * (c.pins + 1) → ⊥) → false ≡ long_by c d o f k w
-  drivers_differ n = rw (ne_eqb d (3 * (c.pins + 1)) n)
-
-  module _ (de : d ≡ 3 * (c.pins + 1)) where
-    pub outputs_differ : (o ≡ c.outputs → ⊥) → false ≡ long_by c d o f k w
-    outputs_differ n = rw (eq-eqb d (3 * (c.pins + 1)) de, ne_eqb o c.outputs n)
-
-    module _ (oe : o ≡ c.outputs) where
-      pub dffs_differ : (f ≡ 3 * c.dffs → ⊥) → false ≡ long_by c d o f k w
-      dffs_differ n = rw (eq-eqb d (3 * (c.pins + 1)) de, eq-eqb o c.outputs oe, ne_eqb f (3 * c.dffs) n)
-
-      module _ (fe : f ≡ 3 * c.dffs) where
-        pub rams_differ : (k ≡ 123 * c.rams → ⊥) → false ≡ long_by c d o f k w
-        rams_differ n = rw (eq-eqb d (3 * (c.pins + 1)) de, eq-eqb o c.outputs oe, eq-eqb f (3 * c.dffs) fe, ne_eqb k (123 * c.rams) n)
-
-        pub work_tells : k ≡ 123 * c.rams → (12 * c.pins + 4 * (c.outputs + c.dffs + c.rams) + 64 ≤? w) ≡ long_by c d o f k w
-        work_tells ke = rw (eq-eqb d (3 * (c.pins + 1)) de, eq-eqb o c.outputs oe, eq-eqb f (3 * c.dffs) fe, eq-eqb k (123 * c.rams) ke)
+-- 2 of a graph, with the work words
+abbrev long_by : GraphCounts → List ℕ → List ℕ → List ℕ → List ℕ → List ℕ → Bool
+long_by c drivers outputs dffs rams w = graph_long c (lent drivers outputs dffs rams) && (stage_work c.pins (endpoints c) ≤? length w)
 
 -- ---- what passing them gives
 all_four : {P : Type 0} (a b c d : Bool) → (((a && b) && c) && d) ≡ true → (a ≡ true → b ≡ true → c ≡ true → d ≡ true → P) → P
@@ -64,7 +32,7 @@ all_four a b c d h k =
     k (and_l a b ab) (and_r a b ab) (and_r (a && b) c abc) (and_r ((a && b) && c) d h)
 
 module _ (c : GraphCounts) (drivers outputs dffs rams w : List ℕ) where
-  pub fitting : (a b : Bool) → a ≡ graph_within c → a ≡ true → b ≡ long_by c (length drivers) (length outputs) (length dffs) (length rams) (length w) → b ≡ true
+  pub fitting : (a b : Bool) → a ≡ graph_within c → a ≡ true → b ≡ long_by c drivers outputs dffs rams w → b ≡ true
       → w ≡ zeros (length w) → Fitting c drivers outputs dffs rams w
   fitting a b ea ta eb tb z =
       all_four (c.pins ≤? 16777215) (c.outputs ≤? 1048576) (c.dffs ≤? 1048576) (c.rams ≤? 1048576) (sym ea ∙ ta) (λ p o f k.
@@ -109,35 +77,27 @@ module _ (c : GraphCounts) (drivers outputs dffs rams w : List ℕ) where
 
   -- ---- the number
   module _ (counts lengths a : Bool) (ea : a ≡ graph_within c) where
-    pub not_within : a ≡ false → 1 ≡ graph_number c (lent drivers outputs dffs rams) (length w) counts lengths
+    pub not_within : a ≡ false → Err Bounds ≡ done_of (graph_number c (lent drivers outputs dffs rams) (length w) counts lengths)
     not_within f = rw (sym ea ∙ f)
 
     module _ (ta : a ≡ true) where
-      pub no_counts : counts ≡ false → 1 ≡ graph_number c (lent drivers outputs dffs rams) (length w) counts lengths
+      pub no_counts : counts ≡ false → Err Bounds ≡ done_of (graph_number c (lent drivers outputs dffs rams) (length w) counts lengths)
       no_counts f = rw (sym ea ∙ ta, f)
 
-      module _ (tc : counts ≡ true) (b : Bool) (eb : b ≡ long_by c (length drivers) (length outputs) (length dffs) (length rams) (length w)) where
-        pub not_long : b ≡ false → 2 ≡ graph_number c (lent drivers outputs dffs rams) (length w) counts lengths
+      module _ (tc : counts ≡ true) (b : Bool) (eb : b ≡ long_by c drivers outputs dffs rams w) where
+        pub not_long : b ≡ false → Err Lengths ≡ done_of (graph_number c (lent drivers outputs dffs rams) (length w) counts lengths)
         not_long f = rw (sym ea ∙ ta, tc, sym eb ∙ f)
 
         module _ (tb : b ≡ true) where
-          pub no_lengths : lengths ≡ false → 2 ≡ graph_number c (lent drivers outputs dffs rams) (length w) counts lengths
+          pub no_lengths : lengths ≡ false → Err Lengths ≡ done_of (graph_number c (lent drivers outputs dffs rams) (length w) counts lengths)
           no_lengths f = rw (sym ea ∙ ta, tc, sym eb ∙ tb, f)
 
           module _ (tl : lengths ≡ true) (g : Bool) (eg : g ≡ graph_fits c (lent drivers outputs dffs rams)) where
-            pub not_fitting : g ≡ false → 12 ≡ graph_number c (lent drivers outputs dffs rams) (length w) counts lengths
+            pub not_fitting : g ≡ false → Err GraphRefused ≡ done_of (graph_number c (lent drivers outputs dffs rams) (length w) counts lengths)
             not_fitting f = rw (sym ea ∙ ta, tc, sym eb ∙ tb, tl, sym eg ∙ f)
 
-            pub all_fits : g ≡ true → 0 ≡ graph_number c (lent drivers outputs dffs rams) (length w) counts lengths
+            pub all_fits : g ≡ true → Ok tt ≡ done_of (graph_number c (lent drivers outputs dffs rams) (length w) counts lengths)
             all_fits t = rw (sym ea ∙ ta, tc, sym eb ∙ tb, tl, sym eg ∙ t)
-
--- ---- the answer
-pub done_accepted : (k : ℕ) → k ≡ 0 → Accepted ≡ done_of k
-done_accepted k e = ap done_of (sym e)
-
-pub done_refused : (k : ℕ) → (k ≡ 0 → ⊥) → Refused k ≡ done_of k
-done_refused zero n = absurd (n refl)
-done_refused (suc k) n = refl
 
 -- ---- the call: words zeroed before and after
 pub zeros_self : (w : List ℕ) (k : ℕ) → w ≡ zeros k → w ≡ zeros (length w)

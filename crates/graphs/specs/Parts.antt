@@ -5,7 +5,8 @@ use Rattle.laws.specs.Lists.{count, every, keep, upto}
 use Rattle.rules.specs.declared.Driver.{Driver}
 use Rattle.rules.specs.Graph.{pin_of, driver_at}
 use Rattle.rules.specs.declared.GraphCounts.{GraphCounts}
-use Rattle.rules.specs.Bounds.{stage_work}
+use Rattle.rules.specs.declared.GraphTables.{GraphTables}
+use Rattle.rules.specs.declared.EndTables.{EndTables}
 use Rattle.rules.specs.Tables.{drivers_in, GraphWords}
 use Rattle.rules.specs.Refusals.{is_dff, is_ram, below, no_repeat}
 use Rattle.marks.specs.Marking.{Marked}
@@ -77,14 +78,27 @@ literals_ok outputs dffs flops rams memories pins = outputs_ok outputs pins && (
 abbrev pub records_ok : List ℕ → List ℕ → List ℕ → ℕ → List ℕ → ℕ → ℕ → Bool
 records_ok drivers outputs dffs flops rams memories pins = pins_ok drivers dffs flops rams memories pins && literals_ok outputs dffs flops rams memories pins
 
+-- the same of a lent graph
+abbrev pub RowsIn : GraphTables → Type 0
+RowsIn g = Rows g.drivers.now g.ends.dffs.now g.ends.counts.dffs g.ends.rams.now g.ends.counts.rams g.ends.counts.pins
+
+abbrev pub dffs_match : GraphTables → Bool
+dffs_match g = pins_match is_dff (dff_pins_in g.ends.dffs.now g.ends.counts.dffs) (drivers_in g.drivers.now g.ends.counts.pins)
+
+abbrev pub rams_match : GraphTables → Bool
+rams_match g = pins_match is_ram (ram_pins_in g.ends.rams.now g.ends.counts.rams) (drivers_in g.drivers.now g.ends.counts.pins)
+
+abbrev pub pins_match_in : GraphTables → Bool
+pins_match_in g = pins_ok g.drivers.now g.ends.dffs.now g.ends.counts.dffs g.ends.rams.now g.ends.counts.rams g.ends.counts.pins
+
+abbrev pub literals_fit_in : EndTables → Bool
+literals_fit_in e = literals_ok e.outputs.now e.dffs.now e.counts.dffs e.rams.now e.counts.rams e.counts.pins
+
+abbrev pub records_fit_in : GraphTables → Bool
+records_fit_in g = pins_match_in g && literals_fit_in g.ends
+
 abbrev pub lent : List ℕ → List ℕ → List ℕ → List ℕ → GraphWords
 lent drivers outputs dffs rams = record { drivers = drivers; outputs = outputs; dffs = dffs; rams = rams }
-
--- 2 of a graph, by the lengths alone
-abbrev pub long_by : GraphCounts → ℕ → ℕ → ℕ → ℕ → ℕ → Bool
-long_by c drivers outputs dffs rams work =
-    ((drivers == 3 * (c.pins + 1)) && (outputs == c.outputs) && (dffs == 3 * c.dffs) && (rams == 123 * c.rams))
-    && (stage_work c.pins (c.outputs + c.dffs + c.rams) ≤? work)
 
 -- what passes 1 and 2, with work words that are 0
 pub record Fitting (c : GraphCounts) (drivers outputs dffs rams w : List ℕ) : Type 0 where
@@ -94,3 +108,6 @@ pub record Fitting (c : GraphCounts) (drivers outputs dffs rams w : List ℕ) : 
   pub rams_few : c.rams ≤ 1048576
   pub work_long_lem : 12 * c.pins + 64 ≤ length w
   pub zero : (j : ℕ) → get_or w j 0 ≡ 0
+
+abbrev pub FittingIn : GraphTables → List ℕ → Type 0
+FittingIn g w = Fitting g.ends.counts g.drivers.now g.ends.outputs.now g.ends.dffs.now g.ends.rams.now w

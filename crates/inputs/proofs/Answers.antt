@@ -6,19 +6,19 @@ use Prim.Native.Nat.{ℕ, zero, suc, ◌*◌, ◌≤◌, ◌<◌}
 use native.Mathlib.Omega.{arith}
 use lib.ListN.{length, get_or, get_or-eq_default}
 use borrow.Author.Tests.{lt-ltb, le-ltb, ltb-true, ltb-false, leb-true, eqb-true}
-use Rattle.std.specs.Prelude.{◌==◌}
+use Rattle.std.specs.Prelude.{Result, Ok, Err, ◌==◌}
 use Rattle.laws.specs.Tests.{◌<?◌, ◌≤?◌}
 use Rattle.laws.specs.Lists.{keep}
 use Rattle.laws.proofs.Tests.{by_test, and_l, and_r}
 use Rattle.rules.specs.declared.GraphCounts.{GraphCounts}
-use Rattle.rules.specs.declared.Read.TheVariants.{Pin, Refused}
+use Rattle.rules.specs.declared.Refusal.{Refusal}
+use Rattle.rules.specs.declared.Refusal.TheVariants.{Bounds, Lengths, Index}
 use Rattle.rules.specs.Bounds.{graph_within}
 use Rattle.rules.specs.Graph.{pin_of}
 use Rattle.rules.specs.Stages.{reads, inputs}
 use Rattle.rules.specs.Tables.{graph_in}
-use Rattle.rules.specs.Answers.{endpoints, input_number, read_of}
+use Rattle.rules.specs.Answers.{ends_long, endpoints, input_number, answer_of}
 use Rattle.reads.specs.Reads.{Lent, records_of, ins_of, reads_in}
-use Rattle.inputs.specs.Counting.{ends_by}
 
 -- an input is a pin other than 0
 pub kept_positive : (l : List ℕ) (i : ℕ) → i < length (keep (λ p. 0 <? p) l) → 0 < get_or (keep (λ p. 0 <? p) l) i 0
@@ -33,7 +33,7 @@ kept_positive (x ∷ l) i h = by_test (0 <? x)
     at_head (suc k) pos q ih = ih k (omega (arith, q))
 
 -- what passing 1 and 2 gives
-pub lent_by : (c : GraphCounts) (os ds rs : List ℕ) → graph_within c ≡ true → ends_by c (length os) (length ds) (length rs) ≡ true → Lent c os ds rs
+pub lent_by : (c : GraphCounts) (os ds rs : List ℕ) → graph_within c ≡ true → ends_long c (records_of os ds rs) ≡ true → Lent c os ds rs
 lent_by c os ds rs within long =
     let three = and_l ((c.pins ≤? 16777215) && (c.outputs ≤? 1048576) && (c.dffs ≤? 1048576)) (c.rams ≤? 1048576) within in
     let two = and_l ((c.pins ≤? 16777215) && (c.outputs ≤? 1048576)) (c.dffs ≤? 1048576) three in
@@ -48,20 +48,20 @@ lent_by c os ds rs within long =
     }
 
 module _ (c : GraphCounts) (os ds rs : List ℕ) (e i : ℕ) (a : Bool) (ea : a ≡ graph_within c) where
-  abbrev pub Answer : Rattle.rules.specs.declared.Read.Read → Type 0
-  Answer r = r ≡ read_of (input_number c (records_of os ds rs) e i) (get_or (inputs (graph_in c (records_of os ds rs)) e) i 0)
+  abbrev pub Answer : Result ℕ Refusal → Type 0
+  Answer r = r ≡ answer_of (input_number c (records_of os ds rs) e i) (get_or (inputs (graph_in c (records_of os ds rs)) e) i 0)
 
-  pub many : a ≡ false → Answer (Refused 1)
+  pub many : a ≡ false → Answer (Err Bounds)
   unfolding input_number
   many f = rw (sym ea ∙ f)
 
-  module _ (ta : a ≡ true) (b : Bool) (eb : b ≡ ends_by c (length os) (length ds) (length rs)) where
-    pub not_long : b ≡ false → Answer (Refused 2)
+  module _ (ta : a ≡ true) (b : Bool) (eb : b ≡ ends_long c (records_of os ds rs)) where
+    pub not_long : b ≡ false → Answer (Err Lengths)
     unfolding input_number
     not_long f = rw (sym ea ∙ ta, sym eb ∙ f)
 
     module _ (tb : b ≡ true) (n : ℕ) (en : n ≡ endpoints c) where
-      pub no_endpoint : n ≤ e → Answer (Refused 15)
+      pub no_endpoint : n ≤ e → Answer (Err Index)
       unfolding input_number
       no_endpoint l = rw (sym ea ∙ ta, sym eb ∙ tb, le-ltb e (endpoints c) (omega (arith, l, en)))
 
@@ -73,7 +73,7 @@ module _ (c : GraphCounts) (os ds rs : List ℕ) (e i : ℕ) (a : Bool) (ea : a 
         unfolding ins_of reads_in
         is_input = ep
 
-        pub no_input : p ≡ 0 → Answer (Refused 15)
+        pub no_input : p ≡ 0 → Answer (Err Index)
         unfolding input_number
         no_input z = rw (sym ea ∙ ta, sym eb ∙ tb, lt-ltb e (endpoints c) (omega (arith, le, en)), le-ltb i (length (inputs (graph_in c (records_of os ds rs)) e)) past)
           where
@@ -82,10 +82,10 @@ module _ (c : GraphCounts) (os ds rs : List ℕ) (e i : ℕ) (a : Bool) (ea : a 
                 (λ t. absurd (omega (arith, z, is_input, kept_positive (map pin_of (reads (graph_in c (records_of os ds rs)) e)) i (ltb-true i (length (inputs (graph_in c (records_of os ds rs)) e)) t))))
                 (ltb-false i (length (inputs (graph_in c (records_of os ds rs)) e)))
 
-        pub the_input : (p ≡ 0 → ⊥) → Answer (Pin p)
+        pub the_input : (p ≡ 0 → ⊥) → Answer (Ok p)
         unfolding input_number
         the_input n' = rw (sym ea ∙ ta, sym eb ∙ tb, lt-ltb e (endpoints c) (omega (arith, le, en)), lt-ltb i (length (inputs (graph_in c (records_of os ds rs)) e)) there)
-            (ap Pin is_input)
+            (ap Ok is_input)
           where
             there : i < length (inputs (graph_in c (records_of os ds rs)) e)
             there = by_test (i <? length (inputs (graph_in c (records_of os ds rs)) e))

@@ -2,11 +2,11 @@
 use mathlib.Core.Path.{◌≡◌, sym, ap, ◌∙◌}
 use mathlib.Core.Bool.{Bool, true, false}
 use mathlib.Core.List.{List, [], ◌∷◌, ◌++◌, map}
-use Prim.Native.Nat.{ℕ, suc, ◌+◌, ◌*◌, ◌/◌, ◌≤◌, ◌<◌}
+use Prim.Native.Nat.{ℕ, suc, ◌+◌, ◌/◌, ◌≤◌, ◌<◌}
 use native.Mathlib.Omega.{arith}
 use lib.ListN.{length, get_or, take, drop, length-append, take-append-drop, get_or-eq_default}
 use lib.Seq.{drop-cons, get_or_at}
-use borrow.Author.Tests.{lt-ltb, le-ltb, eq-eqb, ne_eqb, eqb-true}
+use borrow.Author.Tests.{eq-eqb, eqb-true}
 use Rattle.std.specs.Prelude.{◌==◌}
 use Rattle.laws.specs.Tests.{◌<?◌, one}
 use Rattle.laws.specs.Lists.{keep}
@@ -18,20 +18,7 @@ use Rattle.rules.specs.Stages.{inputs_of}
 use Rattle.rules.specs.Answers.{endpoints}
 use Rattle.reads.specs.Reads.{Lent, reads_in, ins_of, ins_to, reads_long}
 use Rattle.reads.proofs.Inputs.{ins_none, reads-length, ins_step, ins_all, long_few}
-use Rattle.inputs.specs.Counting.{wanted, passed, ends_by}
-
--- ---- the tests
-pub zero_unwanted : (p seen i : ℕ) → p ≡ 0 → false ≡ wanted p seen i
-zero_unwanted p seen i e = rw (le-ltb 0 p (omega (arith, e)))
-
-pub number_tells : (p seen i : ℕ) → (p ≡ 0 → ⊥) → (seen == i) ≡ wanted p seen i
-number_tells p seen i n = rw (lt-ltb 0 p (omega (arith, n)))
-
-pub zero_passes : (p : ℕ) → p ≡ 0 → 0 ≡ passed p
-zero_passes p e = rw (le-ltb 0 p (omega (arith, e)))
-
-pub one_passes : (p : ℕ) → (p ≡ 0 → ⊥) → 1 ≡ passed p
-one_passes p n = rw (lt-ltb 0 p (omega (arith, n)))
+use Rattle.inputs.specs.Counting.{wanted, passed}
 
 -- ---- so many inputs among the first j literals, none of them number i
 pub record Seeking (c : GraphCounts) (os ds rs : List ℕ) (e i n seen j : ℕ) : Type 0 where
@@ -98,15 +85,3 @@ module _ (c : GraphCounts) (os ds rs : List ℕ) (e i n seen j : ℕ) (lent : Le
   seek_ends l =
       let whole : ins_to c os ds rs e j ≡ ins_of c os ds rs e = ins_all c os ds rs e lent le j (omega (arith, l, s.all)) in
       sym (get_or-eq_default (ins_of c os ds rs e) 0 (omega (arith, s.below, s.count, ap length whole)))
-
--- ---- 2, by the lengths
-module _ (c : GraphCounts) (o f k : ℕ) where
-  pub outputs_differ : (o ≡ c.outputs → ⊥) → false ≡ ends_by c o f k
-  outputs_differ n = rw (ne_eqb o c.outputs n)
-
-  module _ (oe : o ≡ c.outputs) where
-    pub dffs_differ : (f ≡ 3 * c.dffs → ⊥) → false ≡ ends_by c o f k
-    dffs_differ n = rw (eq-eqb o c.outputs oe, ne_eqb f (3 * c.dffs) n)
-
-    pub rams_tell : f ≡ 3 * c.dffs → (k == 123 * c.rams) ≡ ends_by c o f k
-    rams_tell fe = rw (eq-eqb o c.outputs oe, eq-eqb f (3 * c.dffs) fe)

@@ -9,7 +9,7 @@ use lib.ListN.{length, get_or, take}
 use lib.Seq.{take-suc, take_all}
 use borrow.Author.Tests.{le-leb, lt-leb}
 use Rattle.laws.specs.Tests.{◌≤?◌}
-use Rattle.laws.specs.Lists.{count, over}
+use Rattle.laws.specs.Lists.{over}
 use Rattle.laws.specs.Sets.{insert}
 use Rattle.laws.proofs.Folds.{over-append, over-same}
 use Rattle.laws.proofs.Words.{part_length, part_at}

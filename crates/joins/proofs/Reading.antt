@@ -9,7 +9,7 @@ use lib.Seq.{get_or-set_other, take-suc, take_all}
 use borrow.Author.Tests.{lt-ltb, eq-eqb, ne_eqb}
 use Rattle.std.specs.Prelude.{◌==◌}
 use Rattle.laws.specs.Tests.{one}
-use Rattle.laws.specs.Lists.{count, flat, over}
+use Rattle.laws.specs.Lists.{flat, over}
 use Rattle.laws.specs.Sets.{remove}
 use Rattle.laws.specs.Words.{part}
 use Rattle.laws.proofs.Tests.{one_eq, one_ne}

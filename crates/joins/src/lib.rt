@@ -65,11 +65,9 @@ fn read_inputs(
 {
     let k = reads_count(c, e);
     let mut n = size;
-    let mut i = 0;
-    while i < k {
+    for i in 0..k {
         let p = read_pin(c, outputs, dffs, rams, e, i);
         n = read_input(work, m, n, p);
-        i += 1;
     }
     n
 }
@@ -94,11 +92,9 @@ pub fn read_taken(
     ensures { ReadAll m work.old size (flat (ins_of c outputs.now dffs.now rams.now) (part taken.now first count)) work.new result }
 {
     let mut n = size;
-    let mut i = 0;
-    while i < count {
+    for i in 0..count {
         let e = word(taken, first + i);
         n = read_inputs(c, outputs, dffs, rams, work, m, n, e as usize);
-        i += 1;
     }
     n
 }
@@ -141,11 +137,9 @@ pub fn join_all(drivers: &[u32], work: &mut [u32], m: usize, d: u32, k: usize) -
     ensures { JoinedAll drivers.now m (stops_of work.old m) d work.old 0 (list_of work.old m k) work.new result }
 {
     let mut n = 0;
-    let mut i = 0;
-    while i < k {
+    for i in 0..k {
         let u = word(work, 3 * m + i);
         n = join_pin(drivers, work, m, d, n, u);
-        i += 1;
     }
     n
 }

@@ -5,7 +5,7 @@ use mathlib.Core.List.{List, [], ◌∷◌}
 use Prim.Native.Nat.{ℕ, ◌+◌, ◌*◌, ◌/◌, ◌%◌, ◌≤◌, ◌<◌}
 use native.Mathlib.Omega.{arith}
 use lib.ListN.{get_or}
-use borrow.Author.Tests.{eq-eqb, ne_eqb, le-ltb, lt-ltb, eqb-true, leb-true}
+use borrow.Author.Tests.{ne_eqb, eqb-true, leb-true}
 use Rattle.std.specs.Prelude.{◌==◌}
 use Rattle.laws.specs.Tests.{◌<?◌, ◌≤?◌, one, same}
 use Rattle.laws.specs.Lists.{any, every, upto}
@@ -125,15 +125,3 @@ module _ (k m bit d : ℕ) (hk : k < 13) (hm : m < 31) where
 
   pub must_word : kind_word k m / 256 ≡ one (any (λ s. s.must) (slots_named m (slots (get_or kind_table k unfit))))
   must_word = ap (λ (w : ℕ). w / 256) word_slots ∙ must_part (slots_named m (slots (get_or kind_table k unfit))) few
-
--- ---- the ways through the code
-module _ (w bit d : ℕ) where
-  pub too_high : w % 64 ≤ bit → false ≡ slot_allows w bit d
-  too_high l = rw (le-ltb bit (w % 64) l)
-
-  module _ (low : bit < w % 64) where
-    pub going_out : d ≡ 1 → (w / 128 % 2 == 1) ≡ slot_allows w bit d
-    going_out e = rw (lt-ltb bit (w % 64) low, eq-eqb d 1 e)
-
-    pub going_in : (d ≡ 1 → ⊥) → (w / 64 % 2 == 1) ≡ slot_allows w bit d
-    going_in n = rw (lt-ltb bit (w % 64) low, ne_eqb d 1 n)

@@ -7,7 +7,7 @@ ghost use Rattle.kinds.specs.Slots.{kind_word, slot_allows};
 // A row of 32 words for each kind. Word m speaks of the pins with name m: how many bits they have, 64 more if they may be
 // in, 128 more if out, 256 more if one must be there; 0 means that there is none. Word 31 has the inversion digits of an
 // AND2_xy_z: x, and 2 for y, and 4 for z.
-const KINDS: [u32; 416] = [
+static KINDS: [u32; 416] = [
     193, 0, 0, 0, 0, 0, 0, 0, 0, 0, 0, 0, 0, 0, 0, 0, 0, 0, 0, 0, 0, 0, 0, 0, 0, 0, 0, 0, 0, 0, 0,
     0, 0, 321, 321, 385, 0, 0, 0, 0, 0, 0, 0, 0, 0, 0, 0, 0, 0, 0, 0, 0, 0, 0, 0, 0, 0, 0, 0, 0, 0,
     0, 0, 0, 0, 321, 321, 385, 0, 0, 0, 0, 0, 0, 0, 0, 0, 0, 0, 0, 0, 0, 0, 0, 0, 0, 0, 0, 0, 0, 0,
@@ -37,11 +37,6 @@ pub fn kind_word(kind: usize, name: usize) -> u32
 pub fn slot_allows(word: u32, bit: u32, direction: u32) -> bool
     ensures { result ≡ slot_allows word bit direction }
 {
-    if word % 64 <= bit {
-        return false;
-    }
-    if direction == 1 {
-        return word / 128 % 2 == 1;
-    }
-    word / 64 % 2 == 1
+    let flag = if direction == 1 { 128 } else { 64 };
+    bit < word % 64 && word / flag % 2 == 1
 }

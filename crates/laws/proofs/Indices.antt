@@ -1,4 +1,6 @@
 -- Lists by index: what stands where, and tests of every entry.
+use Rattle.std.specs.List.{AllWithin, HoldsAt}
+use Rattle.std.specs.Bool.{MatchBool}
 use mathlib.Core.Path.{◌≡◌, refl, sym, ap, subst}
 use mathlib.Core.Bool.{Bool, true, false}
 use mathlib.Core.List.{List, [], ◌∷◌, ◌++◌, map}
@@ -89,3 +91,8 @@ module _ {A : Type 0} (p : A → Bool) (d : A) where
 
   pub every_fails : (l : List A) (k : ℕ) → k < length l → p (get_or l k d) ≡ false → every p l ≡ false
   every_fails l k h e = by_test (every p l) (λ t. true≢false (p (get_or l k d)) (every_at l k t h) e) (λ f. f)
+
+  -- what the call of `all` answers on a slice
+  pub every-from_cases : (l : List A) (r : Bool) → MatchBool r (AllWithin (λ x. p x ≡ true) l 0 (length l)) ((k : ℕ) × (k < length l) × HoldsAt (λ x. p x ≡ false) l k) → r ≡ every p l
+  every-from_cases l true h = sym (every_entry l (λ k b. h k d (omega arith) b))
+  every-from_cases l false (k, b, f) = sym (every_fails l k b (f d))

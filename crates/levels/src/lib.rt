@@ -62,11 +62,9 @@ fn visit_inputs(
 {
     let n = reads_count(c, e);
     let mut k = count;
-    let mut i = 0;
-    while i < n {
+    for i in 0..n {
         let p = read_pin(c, outputs, dffs, rams, e, i);
         k = visit_input(drivers, work, m, k, p);
-        i += 1;
     }
     k
 }
@@ -90,11 +88,9 @@ pub fn visit_left(
     ensures { Gathered drivers.now m (stops_of work.old m) work.old 0 (flat (ins_of c outputs.now dffs.now rams.now) (part work.old (8 * m) n)) work.new result }
 {
     let mut k = 0;
-    let mut i = 0;
-    while i < n {
+    for i in 0..n {
         let e = word(work, 8 * m + i);
         k = visit_inputs(c, drivers, outputs, dffs, rams, work, m, k, e as usize);
-        i += 1;
     }
     k
 }
@@ -171,10 +167,8 @@ pub fn level_all(drivers: &[u32], work: &mut [u32], m: usize, k: usize)
     requires spare { Spare work.old m (2 * k) }
     ensures { Levelled drivers.now m (stops_of work.old m) work.old k work.new }
 {
-    let mut i = 0;
-    while i < k {
+    for i in 0..k {
         let u = word(work, 3 * m + i);
         level_pin(drivers, work, m, u as usize);
-        i += 1;
     }
 }

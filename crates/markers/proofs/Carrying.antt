@@ -1,9 +1,10 @@
 -- What one pin carries, in the code's shape.
 use Rattle.std.specs.Prelude.{Option, None, Some}
 use mathlib.Core.Path.{◌≡◌, refl, sym, ◌∙◌, ap, subst}
+use mathlib.Core.Logic.{◌⊎◌, inl, inr}
 use mathlib.Core.Bool.{Bool, true, false}
 use mathlib.Core.List.{List, []}
-use Prim.Native.Nat.{ℕ, zero, suc, ◌+◌, ◌*◌, ◌<◌, ◌≤◌}
+use Prim.Native.Nat.{ℕ, ◌+◌, ◌*◌, ◌<◌, ◌≤◌}
 use native.Mathlib.Omega.{arith}
 use lib.ListN.{length, get_or, set}
 use Rattle.laws.specs.Lists.{count}
@@ -17,41 +18,18 @@ use Rattle.roles.specs.declared.PinRole.TheVariants.{Wire, OutPort, InvOut, BufO
 use Rattle.roles.specs.Reading.{tables, Fits, says}
 use Rattle.markers.specs.Marks.{mark_word, turned, taken_from, Inside, word_by, marked}
 
-pub turn_none : (x : ℕ) → (x ≡ 1 → ⊥) → (x ≡ 2 → ⊥) → 0 ≡ turned x
-turn_none zero a b = refl
-turn_none (suc zero) a b = absurd (a refl)
-turn_none (suc (suc zero)) a b = absurd (b refl)
-turn_none (suc (suc (suc x))) a b = refl
-
 -- ---- by what the pin is
 module _ (w : List ℕ) (m : ℕ) (what : PinRole) (q : ℕ) where
   inside_as : (v : PinRole) → what ≡ v → 0 < count q (taken_from (says v)) → Inside m (says what) → 2 * m ≤ length w → m + q < length w
   inside_as v e c i l = omega (arith, i.below q (subst (λ (x : PinRole). 0 < count q (taken_from (says x))) (sym e) c), l)
 
-  pub wire_inside : what ≡ Wire q → Inside m (says what) → 2 * m ≤ length w → m + q < length w
-  wire_inside e i l = inside_as (Wire q) e (here q []) i l
-
-  pub port_inside : what ≡ OutPort q → Inside m (says what) → 2 * m ≤ length w → m + q < length w
-  port_inside e i l = inside_as (OutPort q) e (here q []) i l
+  pub same_inside : (what ≡ Wire q) ⊎ ((what ≡ OutPort q) ⊎ (what ≡ BufOut q)) → Inside m (says what) → 2 * m ≤ length w → m + q < length w
+  same_inside (inl e) i l = inside_as (Wire q) e (here q []) i l
+  same_inside (inr (inl e)) i l = inside_as (OutPort q) e (here q []) i l
+  same_inside (inr (inr e)) i l = inside_as (BufOut q) e (here q []) i l
 
   pub inv_inside : what ≡ InvOut q → Inside m (says what) → 2 * m ≤ length w → m + q < length w
   inv_inside e i l = inside_as (InvOut q) e (here q []) i l
-
-  pub buf_inside : what ≡ BufOut q → Inside m (says what) → 2 * m ≤ length w → m + q < length w
-  buf_inside e i l = inside_as (BufOut q) e (here q []) i l
-
-  module _ (r : ℕ) (er : r ≡ get_or w (m + q) 0) where
-    pub carry_wire : what ≡ Wire q → r ≡ word_by w m (says what)
-    carry_wire e = er ∙ sym (ap (λ (x : PinRole). word_by w m (says x)) e)
-
-    pub carry_port : what ≡ OutPort q → r ≡ word_by w m (says what)
-    carry_port e = er ∙ sym (ap (λ (x : PinRole). word_by w m (says x)) e)
-
-    pub carry_buf : what ≡ BufOut q → r ≡ word_by w m (says what)
-    carry_buf e = er ∙ sym (ap (λ (x : PinRole). word_by w m (says x)) e)
-
-    pub carry_inv : what ≡ InvOut q → (t : ℕ) → t ≡ turned r → t ≡ word_by w m (says what)
-    carry_inv e t et = et ∙ ap turned er ∙ sym (ap (λ (x : PinRole). word_by w m (says x)) e)
 
 -- ---- what it takes, it visits
 pub taken_visited : (n : Netlist) (o : ℕ) (r : Role) → 0 < count o (taken_from r) → 0 < count o (visits_of n r)

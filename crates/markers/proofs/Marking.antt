@@ -124,9 +124,6 @@ pub record Marking (n : Netlist) (w₀ w : List ℕ) (i : ℕ) : Type 0 where
   pub before : (j : ℕ) → j < size n → get_or w j 0 ≡ get_or w₀ j 0
   pub after : (j : ℕ) → 2 * size n ≤ j → get_or w j 0 ≡ get_or w₀ j 0
 
-pub marking_begins : (n : Netlist) (w : List ℕ) → Marking n w w 0
-marking_begins n w = record { inside = omega arith; done = refl; before = λ j h. refl; after = λ j h. refl }
-
 module _ (kinds starts list pins nets w₀ w : List ℕ) (i : ℕ) (f : Fits (tables kinds starts list pins nets)) (g : LaidOut (tables kinds starts list pins nets) w₀)
     (s : Marking (tables kinds starts list pins nets) w₀ w i) where
   abbrev net : Netlist

@@ -2,24 +2,23 @@
 // 2 * m on, and one word a pin from m on says 0 for none, 1 for the marker, 2 for the marker after an odd number of INVs.
 #![tactic(auto)]
 
-ghost use Rattle.std.specs.Prelude.{◌≡◌, ℕ, ◌+◌, ◌*◌, ◌<◌, ◌≤◌, length, get_or, set};
-ghost use Rattle.rules.specs.Build.{role};
-ghost use Rattle.roles.specs.Reading.{tables, Fits, says};
+ghost use Rattle.std.specs.Prelude.{◌≡◌, ℕ, ◌+◌, ◌*◌, ◌<◌, ◌≤◌, length, get_or};
+ghost use Rattle.rules.specs.Tables.{netlist_in};
+ghost use Rattle.roles.specs.Reading.{Fits, says};
 ghost use Rattle.markers.specs.Marks.{turned, word_by, Inside, marked, LaidOut, Marked};
 
 use roles::{PinRole, role};
+use rules::NetlistTables;
 
 // The other marker; none stays none.
 fn turn(mark: u32) -> u32
     ensures { result ≡ turned mark }
 {
-    if mark == 1 {
-        return 2;
+    match mark {
+        1 => 2,
+        2 => 1,
+        _ => 0,
     }
-    if mark == 2 {
-        return 1;
-    }
-    0
 }
 
 // What a pin carries.
@@ -37,60 +36,36 @@ fn carried(work: &[u32], m: usize, what: PinRole) -> u32
     ensures { result ≡ word_by work.now m (says what) }
 {
     match what {
-        PinRole::Tied(_) => 0,
-        PinRole::Wire(q) => at(work, m, q),
-        PinRole::OutPort(q) => at(work, m, q),
-        PinRole::InPort => 0,
-        PinRole::AndOut(_, _, _, _, _) => 0,
+        PinRole::Wire(q) | PinRole::OutPort(q) | PinRole::BufOut(q) => at(work, m, q),
         PinRole::InvOut(a) => turn(at(work, m, a)),
-        PinRole::BufOut(a) => at(work, m, a),
         PinRole::GateOut(_, _) => 1,
-        PinRole::DffOut(_) => 0,
-        PinRole::RamOut(_, _) => 0,
-        PinRole::Nothing => 0,
+        _ => 0,
     }
 }
 
 // A pin's word.
-fn mark_pin(
-    kinds: &[u32],
-    starts: &[u32],
-    list: &[u32],
-    pins: &[u32],
-    nets: &[u32],
-    work: &mut [u32],
-    p: u32,
-)
-    requires fits { Fits (tables kinds.now starts.now list.now pins.now nets.now) }
-    requires p_in_bounds { p < length list.now }
-    requires list_in_bounds { 2 * length list.now ≤ length work.old }
-    ensures { work.new ≡ marked (tables kinds.now starts.now list.now pins.now nets.now) work.old p }
+fn mark_pin(n: NetlistTables, work: &mut [u32], p: u32)
+    requires fits { Fits (netlist_in n) }
+    requires p_in_bounds { p < length n.list.now }
+    requires list_in_bounds { 2 * length n.list.now ≤ length work.old }
+    ensures { work.new ≡ marked (netlist_in n.entry) work.old p }
 {
-    let m = list.len();
-    let what = role(kinds, starts, list, pins, nets, p);
+    let m = n.list.len();
+    let what = role(n, p);
     let mark = carried(work, m, what);
     work[m + p as usize] = mark;
 }
 
 // The words of all pins. Each event sets its pin's word: where a pin is left, all that it takes it from was left before.
-pub fn mark_all(
-    kinds: &[u32],
-    starts: &[u32],
-    list: &[u32],
-    pins: &[u32],
-    nets: &[u32],
-    work: &mut [u32],
-)
-    requires fits { Fits (tables kinds.now starts.now list.now pins.now nets.now) }
-    requires laid_out { LaidOut (tables kinds.now starts.now list.now pins.now nets.now) work.old }
-    ensures { Marked (tables kinds.now starts.now list.now pins.now nets.now) work.old work.new }
+pub fn mark_all(n: NetlistTables, work: &mut [u32])
+    requires fits { Fits (netlist_in n) }
+    requires laid_out { LaidOut (netlist_in n) work.old }
+    ensures { Marked (netlist_in n.entry) work.old work.new }
 {
-    let m = list.len();
-    let mut i = 0;
-    while i < 2 * m {
+    let m = n.list.len();
+    for i in 0..2 * m {
         let event = work[2 * m + i];
         let p = event / 2;
-        mark_pin(kinds, starts, list, pins, nets, work, p);
-        i += 1;
+        mark_pin(n, work, p);
     }
 }

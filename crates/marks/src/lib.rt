@@ -10,10 +10,7 @@ pub fn mark_new(work: &mut [u32], base: usize, limit: usize, p: u32) -> bool
     ensures { Marked work.old base limit p work.new result }
 {
     let i = p as usize;
-    if limit <= i {
-        return false;
-    }
-    if work[base + i] != 0 {
+    if limit <= i || work[base + i] != 0 {
         return false;
     }
     work[base + i] = 1;
@@ -25,13 +22,10 @@ pub fn mark_list(list: &[u32], work: &mut [u32], base: usize, limit: usize) -> b
     requires { Clear work.old base limit }
     ensures { MarkedAll list.now work.old base limit work.new result }
 {
-    let mut i = 0;
-    while i < list.len() {
-        let joined = mark_new(work, base, limit, list[i]);
-        if !joined {
+    for &p in list {
+        if !mark_new(work, base, limit, p) {
             return false;
         }
-        i += 1;
     }
     true
 }

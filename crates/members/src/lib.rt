@@ -56,11 +56,8 @@ pub fn insert_all(list: &[u32], work: &mut [u32], a: usize, cap: usize) -> usize
     ensures { InsertedAll list.now work.old a cap work.new result }
 {
     let mut n = 0;
-    let mut i = 0;
-    while i < list.len() {
-        let x = word(list, i);
+    for &x in list {
         n = insert(work, a, cap, n, x);
-        i += 1;
     }
     n
 }
@@ -71,9 +68,7 @@ pub fn fill_up(work: &mut [u32], a: usize, cap: usize)
     ensures { FilledUp work.old a cap work.new }
 {
     let mut n = 0;
-    let mut i = 0;
-    while i < cap {
+    for i in 0..cap {
         n = insert(work, a, cap, n, i as u32);
-        i += 1;
     }
 }

@@ -1,19 +1,19 @@
 -- A RAM in step 3, in the code's shape.
 use mathlib.Core.Path.{◌≡◌, refl, sym, ap, ap₂, subst, ◌∙◌}
 use mathlib.Core.Bool.{Bool, true, false}
-use mathlib.Core.List.{List, [], ◌∷◌}
+use mathlib.Core.List.{List, []}
 use Prim.Native.Nat.{ℕ, zero, suc, ◌+◌, ◌-◌, ◌*◌, ◌<◌, ◌≤◌}
 use native.Mathlib.Numerals.{add-one}
 use native.Mathlib.Omega.{arith}
 use lib.ListN.{length, get_or, set, length-set, take, drop}
 use lib.Seq.{get_or-set_same, get_or-set_other}
 use borrow.Author.Tests.{eq-eqb, ne_eqb, lt-ltb, ltb-true, ltb-false, eqb-true, eqb-false, leb-true, leb-false}
-use Rattle.std.specs.Prelude.{◌==◌}
+use Rattle.std.specs.Prelude.{Option, Some, None, OnSome, ◌==◌}
 use Rattle.laws.specs.Tests.{◌<?◌, ◌≤?◌}
 use Rattle.laws.specs.Lists.{count, member}
 use Rattle.laws.specs.Words.{part}
-use Rattle.laws.proofs.Tests.{by_test, true≢false}
-use Rattle.laws.proofs.Bags.{member_true, member_false, keep_le, here, there}
+use Rattle.laws.proofs.Tests.{by_test}
+use Rattle.laws.proofs.Bags.{member_true, member_false, keep_le}
 use Rattle.laws.proofs.Indices.{place, place_at}
 use Rattle.laws.proofs.Words.{part_in}
 use Rattle.rules.specs.declared.Driver.{Driver}
@@ -22,32 +22,36 @@ use Rattle.rules.specs.declared.Tally.{Tally}
 use Rattle.rules.specs.Netlist.{Netlist, pins_of, ram}
 use Rattle.rules.specs.Graph.{Made, and_of}
 use Rattle.rules.specs.Build.{is_clock, walk, step2}
-use Rattle.rules.proofs.Tables.{clash}
 use Rattle.tallies.specs.Counted.{ram_counted}
 use Rattle.builds.proofs.Growing.{Keeps, keeps_refl, keeps_trans}
 use Rattle.builds.proofs.Ands.{and_keeps}
 use Rattle.builds.proofs.Walks.{trace_grows}
 use Rattle.words.proofs.Tables.{Writing, writing_begins, writing_goes_on}
-use Rattle.roles.specs.declared.Entry.{Entry}
-use Rattle.roles.specs.declared.Entry.TheVariants.{Pin, Absent}
-use Rattle.roles.specs.Reading.{tables, Laid, either_in, has_name, cell_pins, entry_of, kind_at}
+use Rattle.roles.specs.Reading.{Laid, either_in, has_name, cell_pins, entry_of, kind_at}
 use Rattle.roles.proofs.Fitting.{laid}
 use Rattle.drafts.specs.declared.Added.{Added}
 use Rattle.drafts.specs.Table.{Table, drafted, Extends, made}
 use Rattle.drafts.specs.Layout.{number_in}
 use Rattle.activity.specs.Traced.{lits, Ground, Going, start_at, entry_traced}
-use Rattle.activity.proofs.Composing.{nothing_made, step_drivers, step_lit, step_ready, step_below, step_as, step_long, goes_on, stops, ground_after, going_after, step_ends}
+use Rattle.drafts.proofs.Steps.{Extended, extended, longer_full}
+use Rattle.activity.proofs.Composing.{nothing_made, extends, goes_on, onward, ground_after, going_after}
+use Rattle.activity.proofs.Tracing.{entry_in}
 use Rattle.flops.specs.declared.Pair.{Pair}
 use Rattle.flops.specs.Flopped.{Known, Both, Doubles}
-use Rattle.flops.proofs.Flopping.{both_stops, both_made}
+use Rattle.flops.proofs.Flopping.{pair_stops}
 use Rattle.rows.specs.Words.{plain_word}
 use Rattle.memories.specs.Remembered.{clock_at, clocks_made, reads_first, turned, ram_clocks, bits_made, BitsDone, enable_of, row_made, row_word, ClockedDone, ram_made, RowDone, RamDone, begun, fresh, short}
 use Rattle.memories.proofs.Begun.{begun_pin}
 
+-- what follows where there is a value
+OnSome_then : {T P Q : Type 0} (r : Option T) → OnSome r P → (P → Q) → OnSome r Q
+OnSome_then (Some x) p f = f p
+OnSome_then None p f = tt
+
 -- ---- the clocks
-pub entry_keeps : (n : Netlist) (ds : List Driver) (e : Entry) → Keeps ds (entry_traced n ds e).drivers
-entry_keeps n ds (Pin p) = (trace_grows (lits n) ds (walk n p)).keeps
-entry_keeps n ds Absent = keeps_refl ds
+pub entry_keeps : (n : Netlist) (ds : List Driver) (e : Option ℕ) → Keeps ds (entry_traced n ds e).drivers
+entry_keeps n ds (Some p) = (trace_grows (lits n) ds (walk n p)).keeps
+entry_keeps n ds None = keeps_refl ds
 
 module _ (kinds : List ℕ) (c : ℕ) (e : kind_at (get_or kinds c 0) ≡ ram) where
   pub read_named : is_clock (kind_at (get_or kinds c 0)) 11 ≡ true
@@ -56,38 +60,40 @@ module _ (kinds : List ℕ) (c : ℕ) (e : kind_at (get_or kinds c 0) ≡ ram) w
   pub write_named : is_clock (kind_at (get_or kinds c 0)) 14 ≡ true
   write_named = rw e
 
-module _ (kinds starts list pins nets : List ℕ) (at : ℕ) (w ws : List ℕ) (t : Tally) (c : ℕ) (w₁ ws₁ : List ℕ) (one : Added)
-    (s : Extends at (entry_traced (tables kinds starts list pins nets) (drafted ws t) (entry_of (either_in pins 11 14 (cell_pins starts list c)) 0)) w ws t w₁ ws₁ one) where
-  abbrev n : Netlist
-  n = tables kinds starts list pins nets
-
+module _ (n : Netlist) (at : ℕ) (w ws : List ℕ) (t : Tally) (c : ℕ) (w₁ ws₁ : List ℕ) where
   abbrev first : Made
   first = entry_traced n (drafted ws t) (clock_at n c 0)
 
   abbrev second : Made
   second = entry_traced n first.drivers (clock_at n c 1)
 
-  pub clocks_stops : one.fits ≡ false → Doubles at (clocks_made (tables kinds starts list pins nets) (drafted ws t) c) w ws t w₁ ws₁ (record { fits = false; first = one.lit; second = one.lit; tally = one.tally })
-  clocks_stops e = both_stops at w ws t first second w₁ ws₁ one s e (entry_keeps n first.drivers (clock_at n c 1))
+  pub clocks_stop : Extends at (entry_traced n (drafted ws t) (entry_of (either_in n.pins 11 14 (cell_pins n.starts n.list c)) 0)) w ws t w₁ ws₁ None
+      → Doubles at (clocks_made n (drafted ws t) c) w ws t w₁ ws₁ None
+  clocks_stop s = pair_stops at first w ws t w₁ ws₁ (clocks_made n (drafted ws t) c) s (entry_keeps n first.drivers (clock_at n c 1))
 
-  pub clocks_going : one.fits ≡ true → Going (tables kinds starts list pins nets) at w ws t → Going (tables kinds starts list pins nets) at w₁ ws₁ one.tally
-  clocks_going e g = going_after n at first w ws t w₁ ws₁ one g s e (entry_keeps n (drafted ws t) (clock_at n c 0))
+  module _ (one : Added) (s : Extends at (entry_traced n (drafted ws t) (entry_of (either_in n.pins 11 14 (cell_pins n.starts n.list c)) 0)) w ws t w₁ ws₁ (Some one)) where
+    e : Extended at first w ws t w₁ ws₁ one
+    e = extended at first w ws t w₁ ws₁ one s
 
-  pub clocks_made_lem : one.fits ≡ true → (w₂ ws₂ : List ℕ) (two : Added)
-      → Extends at (entry_traced (tables kinds starts list pins nets) (drafted ws₁ one.tally) (entry_of (either_in pins 11 14 (cell_pins starts list c)) 1)) w₁ ws₁ one.tally w₂ ws₂ two
-      → Doubles at (clocks_made (tables kinds starts list pins nets) (drafted ws t) c) w ws t w₂ ws₂ (record { fits = two.fits; first = one.lit; second = two.lit; tally = two.tally })
-  clocks_made_lem e w₂ ws₂ two s₂ = both_made at w ws t first second w₁ ws₁ one s e w₂ ws₂ two
-      (subst (λ (ds : List Driver). Extends at (entry_traced n ds (clock_at n c 1)) w₁ ws₁ one.tally w₂ ws₂ two) (step_drivers at first w ws t w₁ ws₁ one s e) s₂)
+    pub clocks_going : Going n at w ws t → Going n at w₁ ws₁ one.tally
+    clocks_going g = going_after n at first w ws t w₁ ws₁ one g e (entry_keeps n (drafted ws t) (clock_at n c 0))
+
+    module _ (w₂ ws₂ : List ℕ) where
+      then_second : (r : Option Added) → Extends at (entry_traced n (drafted ws₁ one.tally) (entry_of (either_in n.pins 11 14 (cell_pins n.starts n.list c)) 1)) w₁ ws₁ one.tally w₂ ws₂ r
+          → Extends at second w ws t w₂ ws₂ r
+      then_second = onward at first w ws t w₁ ws₁ one e (λ ds. entry_traced n ds (clock_at n c 1)) w₂ ws₂
+
+      pub second_stops : Extends at (entry_traced n (drafted ws₁ one.tally) (entry_of (either_in n.pins 11 14 (cell_pins n.starts n.list c)) 1)) w₁ ws₁ one.tally w₂ ws₂ None
+          → Doubles at (clocks_made n (drafted ws t) c) w ws t w₂ ws₂ None
+      second_stops s₂ = record { step = then_second None s₂; first = tt }
+
+      pub clocks_made_lem : (two : Added) → Extends at (entry_traced n (drafted ws₁ one.tally) (entry_of (either_in n.pins 11 14 (cell_pins n.starts n.list c)) 1)) w₁ ws₁ one.tally w₂ ws₂ (Some two)
+          → Doubles at (clocks_made n (drafted ws t) c) w ws t w₂ ws₂ (Some (record { first = one.lit; second = two.lit; tally = two.tally }))
+      clocks_made_lem two s₂ = record { step = then_second (Some two) s₂; first = e.lit }
 
 -- which is which
-entry_in : (l : List ℕ) (k p : ℕ) → entry_of l k ≡ Pin p → 0 < count p l
-unfolding entry_of
-entry_in [] k p e = clash (cc)
-entry_in (x ∷ l) zero p e = let q : p ≡ x = cc in subst (λ (y : ℕ). 0 < count y (x ∷ l)) (sym q) (here x l)
-entry_in (x ∷ l) (suc k) p e = there p x l (entry_in l k p e)
-
-module _ (starts list pins : List ℕ) (c : ℕ) (found : Entry) (h : found ≡ entry_of (either_in pins 11 14 (cell_pins starts list c)) 0) where
-  module _ (p : ℕ) (e : found ≡ Pin p) where
+module _ (starts list pins : List ℕ) (c : ℕ) (found : Option ℕ) (h : found ≡ entry_of (either_in pins 11 14 (cell_pins starts list c)) 0) where
+  module _ (p : ℕ) (e : found ≡ Some p) where
     pub name_place : Laid starts list pins → c + 1 < length starts → 5 * p + 1 < length pins
     unfolding part
     name_place l b = part_in list (get_or starts c 0) (get_or starts (c + 1) 0 - get_or starts c 0) p (omega (arith, l.rise c b, l.within (c + 1) b))
@@ -97,39 +103,32 @@ module _ (starts list pins : List ℕ) (c : ℕ) (found : Entry) (h : found ≡ 
     pub name_told : (name : ℕ) → name ≡ get_or pins (5 * p + 1) 0 → (name == 11) ≡ reads_first pins (entry_of (either_in pins 11 14 (cell_pins starts list c)) 0)
     name_told name en = ap (λ (x : ℕ). x == 11) en ∙ sym (ap (reads_first pins) (sym h ∙ e))
 
-  pub name_none : found ≡ Absent → true ≡ reads_first pins (entry_of (either_in pins 11 14 (cell_pins starts list c)) 0)
+  pub name_none : found ≡ None → true ≡ reads_first pins (entry_of (either_in pins 11 14 (cell_pins starts list c)) 0)
   name_none e = sym (ap (reads_first pins) (sym h ∙ e))
 
-module _ (kinds starts list pins nets : List ℕ) (at : ℕ) (w ws : List ℕ) (t : Tally) (c : ℕ) (so : Bool) (w₁ ws₁ : List ℕ) (both : Pair)
-    (es : so ≡ reads_first pins (entry_of (either_in pins 11 14 (cell_pins starts list c)) 0))
-    (h : Doubles at (clocks_made (tables kinds starts list pins nets) (drafted ws t) c) w ws t w₁ ws₁ both) where
-  abbrev o : Netlist
-  o = tables kinds starts list pins nets
-
+module _ (n : Netlist) (at : ℕ) (w ws : List ℕ) (t : Tally) (c : ℕ) (w₁ ws₁ : List ℕ) where
   abbrev b : Both
-  b = clocks_made o (drafted ws t) c
+  b = clocks_made n (drafted ws t) c
 
-  pub clocks_so : so ≡ true → Doubles at (ram_clocks (tables kinds starts list pins nets) (drafted ws t) c) w ws t w₁ ws₁ both
-  clocks_so e = subst (λ (x : Bool). Doubles at (turned x b) w ws t w₁ ws₁ both) (sym e ∙ es) h
-
-  turn : (f : Bool) → both.fits ≡ f → Extends at (start_at b.drivers b.first) w ws t w₁ ws₁ (record { fits = both.fits; lit = both.first; tally = both.tally })
-  turn true e = made e (h.first e) (step_ready at m w ws t w₁ ws₁ got h.step e) (step_drivers at m w ws t w₁ ws₁ got h.step e)
-      (step_ends at m w ws t w₁ ws₁ got h.step e) (step_below at m w ws t w₁ ws₁ got h.step e) (step_long at m w ws t w₁ ws₁ got h.step).1
+  -- whichever is the read clock, the pins that are made are the same
+  pub ram_clocks_stop : Doubles at (clocks_made n (drafted ws t) c) w ws t w₁ ws₁ None → Doubles at (ram_clocks n (drafted ws t) c) w ws t w₁ ws₁ None
+  ram_clocks_stop h = by_turn (reads_first n.pins (clock_at n c 0))
     where
-      m : Made
-      m = start_at b.drivers b.second
+      by_turn : (x : Bool) → Doubles at (turned x b) w ws t w₁ ws₁ None
+      by_turn true = h
+      by_turn false = record { step = longer_full at (start_at b.drivers b.second) w ws t w₁ ws₁ (start_at b.drivers b.first) (omega arith) h.step; first = tt }
 
-      got : Added
-      got = record { fits = both.fits; lit = both.second; tally = both.tally }
-  turn false e = stops at (start_at b.drivers b.second) w ws t w₁ ws₁ (record { fits = both.fits; lit = both.second; tally = both.tally }) (start_at b.drivers b.first) h.step e (omega arith)
-      (record { fits = both.fits; lit = both.first; tally = both.tally }) e
+  module _ (so : Bool) (both : Pair) (es : so ≡ reads_first n.pins (entry_of (either_in n.pins 11 14 (cell_pins n.starts n.list c)) 0))
+      (h : Doubles at (clocks_made n (drafted ws t) c) w ws t w₁ ws₁ (Some both)) where
+    pub clocks_so : so ≡ true → Doubles at (ram_clocks n (drafted ws t) c) w ws t w₁ ws₁ (Some both)
+    clocks_so e = subst (λ (x : Bool). Doubles at (turned x b) w ws t w₁ ws₁ (Some both)) (sym e ∙ es) h
 
-  pub clocks-turned : so ≡ false → Doubles at (ram_clocks (tables kinds starts list pins nets) (drafted ws t) c) w ws t w₁ ws₁ (record { fits = both.fits; first = both.second; second = both.first; tally = both.tally })
-  clocks-turned e = subst (λ (x : Bool). Doubles at (turned x b) w ws t w₁ ws₁ (record { fits = both.fits; first = both.second; second = both.first; tally = both.tally })) (sym e ∙ es)
-      (record {
-        step = turn both.fits refl;
-        first = λ f. step_lit at (start_at b.drivers b.second) w ws t w₁ ws₁ (record { fits = both.fits; lit = both.second; tally = both.tally }) h.step f;
-      })
+    pub clocks-turned : so ≡ false → Doubles at (ram_clocks n (drafted ws t) c) w ws t w₁ ws₁ (Some (record { first = both.second; second = both.first; tally = both.tally }))
+    clocks-turned e = subst (λ (x : Bool). Doubles at (turned x b) w ws t w₁ ws₁ (Some (record { first = both.second; second = both.first; tally = both.tally }))) (sym e ∙ es)
+        (record { step = made (record { lit = both.first; tally = both.tally }) refl h.first l.table l.drivers l.ends l.below l.long; first = l.lit })
+      where
+        l : Extended at (start_at b.drivers b.second) w ws t w₁ ws₁ (record { lit = both.second; tally = both.tally })
+        l = extended at (start_at b.drivers b.second) w ws t w₁ ws₁ (record { lit = both.second; tally = both.tally }) h.step
 
 -- ---- the write enables
 bits_to : (ds : List Driver) (l : ℕ) (f : ℕ → ℕ) (i k d : ℕ) → d ≡ k + i → Keeps (bits_made ds l f i).drivers (bits_made ds l f d).drivers
@@ -148,19 +147,14 @@ bits_same ds l f g (suc k) h = ap₂ (λ (m : Made) (x : ℕ). and_of m.drivers 
 
 pub record Enabling (at : ℕ) (w₀ ws₀ : List ℕ) (t₀ : Tally) (from l : ℕ) (rams₀ w ws rams : List ℕ) (i : ℕ) (step : Added) : Type 0 where
   pub inside : i ≤ 32
-  pub steps : Extends at (bits_made (drafted ws₀ t₀) l (λ j. get_or rams₀ (from + j) 0) i) w₀ ws₀ t₀ w ws step
-  pub fits : step.fits ≡ true
-  pub ready : Table at w ws step.tally
+  pub steps : Extended at (bits_made (drafted ws₀ t₀) l (λ j. get_or rams₀ (from + j) 0) i) w₀ ws₀ t₀ w ws step
   pub words : Writing rams₀ from (λ j. (bits_made (drafted ws₀ t₀) l (λ k. get_or rams₀ (from + k) 0) (suc j)).lit) i rams
 
-pub enabling_begins : (at : ℕ) (w ws : List ℕ) (so : Added) (from : ℕ) (l : Literal) (rams : List ℕ) → Table at w ws so.tally → so.fits ≡ true → so.lit.word ≡ l.word
-    → Enabling at w ws so.tally from l.word rams w ws rams 0 so
-enabling_begins at w ws so from l rams h e el = record {
+pub enabling_begins : (at : ℕ) (w ws : List ℕ) (t : Tally) (from : ℕ) (l : Literal) (rams : List ℕ) → Table at w ws t
+    → Enabling at w ws t from l.word rams w ws rams 0 (record { lit = l; tally = t })
+enabling_begins at w ws t from l rams h = record {
   inside = omega arith;
-  steps = subst (λ (x : ℕ). Extends at (start_at (drafted ws so.tally) x) w ws so.tally w ws so) el
-      (step_as at (start_at (drafted ws so.tally) so.lit.word) w ws so.tally w ws (record { fits = true; lit = so.lit; tally = so.tally }) (nothing_made at w ws so.tally so.lit h) so e refl refl);
-  fits = e;
-  ready = h;
+  steps = extended at (start_at (drafted ws t) l.word) w ws t w ws (record { lit = l; tally = t }) (nothing_made at w ws t l h);
   words = writing_begins rams from _;
 }
 
@@ -171,40 +165,38 @@ module _ (at : ℕ) (w₀ ws₀ : List ℕ) (t₀ : Tally) (from l : ℕ) (rams�
   abbrev up_to : ℕ → Made
   up_to k = bits_made (drafted ws₀ t₀) l f k
 
-  pub enabling_ends : 32 ≤ i → BitsDone at w₀ ws₀ t₀ from l rams₀ w ws rams so
+  pub enabling_ends : 32 ≤ i → BitsDone at w₀ ws₀ t₀ from l rams₀ w ws rams (Some so)
   enabling_ends b = let e : i ≡ 32 = omega (arith, b, h.inside) in record {
-    step = subst (λ (k : ℕ). Extends at (up_to k) w₀ ws₀ t₀ w ws so) e h.steps;
-    words = λ _. subst (λ (k : ℕ). Writing rams₀ from (λ j. (up_to (suc j)).lit) k rams) e h.words;
+    step = extends at (up_to 32) w₀ ws₀ t₀ w ws so (subst (λ (k : ℕ). Extended at (up_to k) w₀ ws₀ t₀ w ws so) e h.steps);
+    words = subst (λ (k : ℕ). Writing rams₀ from (λ j. (up_to (suc j)).lit) k rams) e h.words;
     long = h.words.long;
   }
 
-  module _ (b : i < 32) (w' ws' rams' : List ℕ) (step : Added)
-      (s : Extends at (and_of (drafted ws so.tally) (get_or rams (from + i) 0) l) w ws so.tally w' ws' step) (e' : rams' ≡ set rams (from + i) step.lit.word) where
-    here_is : and_of (drafted ws so.tally) (get_or rams (from + i) 0) l ≡ up_to (suc i)
-    here_is = ap₂ (λ (ds : List Driver) (x : ℕ). and_of ds x l) (step_drivers at (up_to i) w₀ ws₀ t₀ w ws so h.steps h.fits) (h.words.after (from + i) (omega arith))
+  module _ (b : i < 32) (w' ws' : List ℕ) where
+    then_this : (r : Option Added) → Extends at (and_of (drafted ws so.tally) (get_or rams (from + i) 0) l) w ws so.tally w' ws' r → Extends at (up_to (suc i)) w₀ ws₀ t₀ w' ws' r
+    then_this r s = subst (λ (x : ℕ). Extends at (and_of (up_to i).drivers x l) w₀ ws₀ t₀ w' ws' r) (h.words.after (from + i) (omega arith))
+        (onward at (up_to i) w₀ ws₀ t₀ w ws so h.steps (λ ds. and_of ds (get_or rams (from + i) 0) l) w' ws' r s)
 
-    onward : Extends at (up_to (suc i)) w₀ ws₀ t₀ w' ws' step
-    onward = goes_on at (up_to i) w₀ ws₀ t₀ w ws so (up_to (suc i)) h.steps h.fits w' ws' step (subst (λ (m : Made). Extends at m w ws so.tally w' ws' step) here_is s)
-
-    pub enabling_goes_on : from + 32 ≤ length rams₀ → step.fits ≡ true → Enabling at w₀ ws₀ t₀ from l rams₀ w' ws' rams' (i + 1) step
-    enabling_goes_on r e = record {
+    pub enabling_goes_on : (step : Added) → Extends at (and_of (drafted ws so.tally) (get_or rams (from + i) 0) l) w ws so.tally w' ws' (Some step) → from + 32 ≤ length rams₀
+        → Enabling at w₀ ws₀ t₀ from l rams₀ w' ws' (set rams (from + i) step.lit.word) (i + 1) step
+    enabling_goes_on step s r = record {
       inside = omega (arith, b);
-      steps = subst (λ (k : ℕ). Extends at (up_to k) w₀ ws₀ t₀ w' ws' step) (sym (add-one i)) onward;
-      fits = e;
-      ready = step_ready at (up_to (suc i)) w₀ ws₀ t₀ w' ws' step onward e;
-      words = subst (Writing rams₀ from (λ j. (up_to (suc j)).lit) (i + 1)) (sym e')
-          (writing_goes_on rams₀ from (λ j. (up_to (suc j)).lit) i rams step.lit.word h.words (omega (arith, r, b)) (step_lit at (up_to (suc i)) w₀ ws₀ t₀ w' ws' step onward e));
+      steps = subst (λ (k : ℕ). Extended at (up_to k) w₀ ws₀ t₀ w' ws' step) (sym (add-one i)) now;
+      words = writing_goes_on rams₀ from (λ j. (up_to (suc j)).lit) i rams step.lit.word h.words (omega (arith, r, b)) now.lit;
     }
+      where
+        now : Extended at (up_to (suc i)) w₀ ws₀ t₀ w' ws' step
+        now = extended at (up_to (suc i)) w₀ ws₀ t₀ w' ws' step (then_this (Some step) s)
 
-    pub enabling_fails : step.fits ≡ false → BitsDone at w₀ ws₀ t₀ from l rams₀ w' ws' rams' step
-    enabling_fails e = record {
-      step = stops at (up_to (suc i)) w₀ ws₀ t₀ w' ws' step (up_to 32) onward e (bits_longer (drafted ws₀ t₀) l f (suc i) 32 (omega (arith, b))).longer step e;
-      words = λ y. true≢false step.fits y e;
-      long = ap length e' ∙ length-set rams (from + i) step.lit.word ∙ h.words.long;
+    pub enabling_fails : Extends at (and_of (drafted ws so.tally) (get_or rams (from + i) 0) l) w ws so.tally w' ws' None → BitsDone at w₀ ws₀ t₀ from l rams₀ w' ws' rams None
+    enabling_fails s = record {
+      step = longer_full at (up_to (suc i)) w₀ ws₀ t₀ w' ws' (up_to 32) (bits_longer (drafted ws₀ t₀) l f (suc i) 32 (omega (arith, b))).longer (then_this None s);
+      words = tt;
+      long = h.words.long;
     }
 
 -- ---- the row
-module _ (n : Netlist) (c k at : ℕ) (w ws : List ℕ) (t : Tally) (read write : ℕ) (rams rams₁ rams₂ rams₃ w' ws' : List ℕ) (r : Added)
+module _ (n : Netlist) (c k at : ℕ) (w ws : List ℕ) (t : Tally) (read write : ℕ) (rams rams₁ rams₂ rams₃ w' ws' : List ℕ) (r : Option Added)
     (room : 123 * k + 123 ≤ length rams) (filled : Writing rams (123 * k) (plain_word n c) 123 rams₁) (e₂ : rams₂ ≡ set rams₁ (123 * k) read)
     (h : BitsDone at w ws t (123 * k + 59) write rams₂ w' ws' rams₃ r) where
   abbrev a : ℕ
@@ -278,56 +270,49 @@ module _ (n : Netlist) (c k at : ℕ) (w ws : List ℕ) (t : Tally) (read write 
   pub row_done : ClockedDone n c k at w ws t read write rams w' ws' rams₃ r
   row_done = record {
     step = subst (λ (m : Made). Extends at m w ws t w' ws' r) (same_to 32 (omega arith)) h.step;
-    row = λ y. row_words_lem (h.words y);
+    row = OnSome_then r h.words row_words_lem;
     long = h.long ∙ ap length e₂ ∙ length-set rams₁ a read ∙ filled.long;
   }
 
-module _ (kinds starts list pins nets : List ℕ) (at : ℕ) (w ws : List ℕ) (t : Tally) (c k : ℕ) (rams w₁ ws₁ : List ℕ) (clocks : Pair)
-    (h : Doubles at (ram_clocks (tables kinds starts list pins nets) (drafted ws t) c) w ws t w₁ ws₁ clocks) where
-  abbrev v : Netlist
-  v = tables kinds starts list pins nets
-
+module _ (n : Netlist) (at : ℕ) (w ws : List ℕ) (t : Tally) (c k : ℕ) (rams w₁ ws₁ : List ℕ) where
   abbrev x : Both
-  x = ram_clocks v (drafted ws t) c
+  x = ram_clocks n (drafted ws t) c
 
   abbrev m : Made
   m = start_at x.drivers x.second
 
-  abbrev got : Added
-  got = record { fits = clocks.fits; lit = clocks.second; tally = clocks.tally }
-
-  pub ram_stops : clocks.fits ≡ false → RowDone (tables kinds starts list pins nets) c k at w ws t rams w₁ ws₁ rams (record { fits = false; lit = clocks.second; tally = clocks.tally })
-  ram_stops e = record {
-    step = stops at m w ws t w₁ ws₁ got (ram_made v (drafted ws t) c 32) h.step e (bits_longer x.drivers x.second (enable_of v c) 0 32 (omega arith)).longer (record { fits = false; lit = clocks.second; tally = clocks.tally }) refl;
-    row = λ y. true≢false false y refl;
+  pub ram_stops : Doubles at (ram_clocks n (drafted ws t) c) w ws t w₁ ws₁ None → RowDone n c k at w ws t rams w₁ ws₁ rams None
+  ram_stops h = record {
+    step = longer_full at m w ws t w₁ ws₁ (ram_made n (drafted ws t) c 32) (bits_longer x.drivers x.second (enable_of n c) 0 32 (omega arith)).longer h.step;
+    row = tt;
     long = refl;
   }
 
-  module _ (e : clocks.fits ≡ true) where
-    pub ram_ready : Table at w₁ ws₁ clocks.tally
-    ram_ready = step_ready at m w ws t w₁ ws₁ got h.step e
+  module _ (clocks : Pair) (h : Doubles at (ram_clocks n (drafted ws t) c) w ws t w₁ ws₁ (Some clocks)) where
+    abbrev got : Added
+    got = record { lit = clocks.second; tally = clocks.tally }
 
-    pub ram_known : Going (tables kinds starts list pins nets) at w ws t → Known (tables kinds starts list pins nets) w₁
-    ram_known g = let g' : Ground v at w₁ = ground_after v at w g.grounded w₁ (step_below at m w ws t w₁ ws₁ got h.step e) in
+    after : Extended at m w ws t w₁ ws₁ got
+    after = extended at m w ws t w₁ ws₁ got h.step
+
+    pub ram_ready : Table at w₁ ws₁ clocks.tally
+    ram_ready = after.table
+
+    pub ram_known : Going n at w ws t → Known n w₁
+    ram_known g = let g' : Ground n at w₁ = ground_after n at w g.grounded w₁ after.below in
         record { accepted = g'.accepted; fits = g'.fits; wide = omega (arith, g'.below, g'.inside); written = g'.written }
 
-    pub ram_then : (w₂ ws₂ rams₂ : List ℕ) (r : Added) → ClockedDone (tables kinds starts list pins nets) c k at w₁ ws₁ clocks.tally clocks.first.word clocks.second.word rams w₂ ws₂ rams₂ r
-        → RowDone (tables kinds starts list pins nets) c k at w ws t rams w₂ ws₂ rams₂ r
+    pub ram_then : (w₂ ws₂ rams₂ : List ℕ) (r : Option Added) → ClockedDone n c k at w₁ ws₁ clocks.tally clocks.first.word clocks.second.word rams w₂ ws₂ rams₂ r
+        → RowDone n c k at w ws t rams w₂ ws₂ rams₂ r
     ram_then w₂ ws₂ rams₂ r d = record {
-      step = goes_on at m w ws t w₁ ws₁ got (ram_made v (drafted ws t) c 32) h.step e w₂ ws₂ r
-          (subst (λ (y : Made). Extends at y w₁ ws₁ clocks.tally w₂ ws₂ r) (ap₂ (λ (ds : List Driver) (y : ℕ). row_made v c ds y 32) ds_are lit_is) d.step);
-      row = λ y. subst (λ (g : ℕ → ℕ). Writing rams (123 * k) g 123 rams₂) words_are (d.row y);
+      step = goes_on at m w ws t w₁ ws₁ got after (ram_made n (drafted ws t) c 32) w₂ ws₂ r
+          (subst (λ (y : Made). Extends at y w₁ ws₁ clocks.tally w₂ ws₂ r) (ap₂ (λ (ds : List Driver) (y : ℕ). row_made n c ds y 32) after.drivers after.lit) d.step);
+      row = OnSome_then r d.row (subst (λ (g : ℕ → ℕ). Writing rams (123 * k) g 123 rams₂) words_are);
       long = d.long;
     }
       where
-        ds_are : drafted ws₁ clocks.tally ≡ x.drivers
-        ds_are = step_drivers at m w ws t w₁ ws₁ got h.step e
-
-        lit_is : clocks.second.word ≡ x.second
-        lit_is = step_lit at m w ws t w₁ ws₁ got h.step e
-
-        words_are : row_word v c (drafted ws₁ clocks.tally) clocks.first.word clocks.second.word ≡ row_word v c x.drivers x.first x.second
-        words_are = ap₂ (λ (ds : List Driver) (y : ℕ). row_word v c ds clocks.first.word y) ds_are lit_is ∙ ap (λ (y : ℕ). row_word v c x.drivers y x.second) (h.first e)
+        words_are : row_word n c (drafted ws₁ clocks.tally) clocks.first.word clocks.second.word ≡ row_word n c x.drivers x.first x.second
+        words_are = ap₂ (λ (ds : List Driver) (y : ℕ). row_word n c ds clocks.first.word y) after.drivers after.lit ∙ ap (λ (y : ℕ). row_word n c x.drivers y x.second) h.first
 
 -- ---- where the row stands
 number_cases : (l : List ℕ) (x k : ℕ) → k ≡ number_in l x → ((k ≡ 0 → ⊥) → (0 < count x l) × (k - 1 ≡ place x l)) × (k ≡ 0 → count x l ≡ 0)
@@ -336,52 +321,47 @@ number_cases l x k e = by_test (member x l)
     (λ t. let q : k ≡ suc (place x l) = e ∙ rw t in (λ ne. (member_true x l t, omega (arith, q)), λ z. absurd (omega (arith, q, z))))
     (λ f. let q : k ≡ 0 = e ∙ rw f in (λ ne. absurd (ne q), λ z. member_false x l f))
 
-module _ (kinds starts list pins nets w : List ℕ) (c start end : ℕ) (k : Known (tables kinds starts list pins nets) w) (l : c < length kinds) (kd : kind_at (get_or kinds c 0) ≡ ram)
-    (es : start ≡ get_or starts c 0) (ee : end ≡ get_or starts (c + 1) 0) where
-  abbrev u : Netlist
-  u = tables kinds starts list pins nets
-
-  long : c + 1 < length starts
+module _ (n : Netlist) (w : List ℕ) (c start end : ℕ) (k : Known n w) (l : c < length n.kinds) (kd : kind_at (get_or n.kinds c 0) ≡ ram)
+    (es : start ≡ get_or n.starts c 0) (ee : end ≡ get_or n.starts (c + 1) 0) where
+  long : c + 1 < length n.starts
   long = omega (arith, l, k.fits.starts_long)
 
-  pub number_place : 6 * length list + start < length w
-  number_place = omega (arith, es, (laid kinds starts list pins nets k.fits).within c (omega (arith, long)), k.wide)
+  pub number_place : 6 * length n.list + start < length w
+  number_place = omega (arith, es, (laid n.kinds n.starts n.list n.pins n.nets k.fits).within c (omega (arith, long)), k.wide)
 
-  no_list : start ≡ end → pins_of u c ≡ []
-  no_list e = let q : get_or starts (c + 1) 0 - get_or starts c 0 ≡ 0 = omega (arith, es, ee, e) in ap (λ (i : ℕ). take i (drop (get_or starts c 0) list)) q
+  no_list : start ≡ end → pins_of n c ≡ []
+  no_list e = let q : get_or n.starts (c + 1) 0 - get_or n.starts c 0 ≡ 0 = omega (arith, es, ee, e) in ap (λ (i : ℕ). take i (drop (get_or n.starts c 0) n.list)) q
 
-  pub number-none : start ≡ end → 0 ≡ number_in (step2 (tables kinds starts list pins nets)).rams c
+  pub number-none : start ≡ end → 0 ≡ number_in (step2 n).rams c
   unfolding number_in
-  number-none e = by_test (member c (step2 u).rams)
-      (λ t. let a = begun_pin u k.accepted c (member_true c (step2 u).rams t) in
+  number-none e = by_test (member c (step2 n).rams)
+      (λ t. let a = begun_pin n k.accepted c (member_true c (step2 n).rams t) in
       let m : 0 < count a.0 [] = subst (λ (y : List ℕ). 0 < count a.0 y) (no_list e) a.1 in absurd (omega (arith, m)))
       (λ f. rw f)
 
-  pub number-told : (start ≡ end → ⊥) → (r : ℕ) → r ≡ get_or w (6 * length list + start) 0 → r ≡ number_in (step2 (tables kinds starts list pins nets)).rams c
-  number-told ne r er = er ∙ ap (λ (i : ℕ). get_or w (6 * length list + i) 0) es
-      ∙ k.written.ram_numbers c l kd (omega (arith, ne, es, ee, (laid kinds starts list pins nets k.fits).rise c long, ap (λ (i : ℕ). get_or starts i 0) (add-one c)))
+  pub number-told : (start ≡ end → ⊥) → (r : ℕ) → r ≡ get_or w (6 * length n.list + start) 0 → r ≡ number_in (step2 n).rams c
+  number-told ne r er = er ∙ ap (λ (i : ℕ). get_or w (6 * length n.list + i) 0) es
+      ∙ k.written.ram_numbers c l kd (omega (arith, ne, es, ee, (laid n.kinds n.starts n.list n.pins n.nets k.fits).rise c long, ap (λ (i : ℕ). get_or n.starts i 0) (add-one c)))
 
-module _ (kinds starts list pins nets : List ℕ) (c number at : ℕ) (w ws : List ℕ) (t : Tally) (rams w' ws' rams' : List ℕ) (r : Added)
-    (e : number ≡ number_in (step2 (tables kinds starts list pins nets)).rams c) where
-  abbrev y : Netlist
-  y = tables kinds starts list pins nets
+module _ (n : Netlist) (c number : ℕ) (e : number ≡ number_in (step2 n).rams c) where
+  module _ (t : Tally) (rams : List ℕ) where
+    pub begun_room : (number ≡ 0 → ⊥) → length (step2 n).rams ≤ t.rams → 123 * t.rams ≤ length rams → 123 * (number - 1) + 123 ≤ length rams
+    begun_room ne a b = let q = (number_cases (step2 n).rams c number e).0 ne in omega (arith, a, b, q.1, (place_at c (step2 n).rams q.0).0)
 
-  pub begun_room : (number ≡ 0 → ⊥) → length (step2 (tables kinds starts list pins nets)).rams ≤ t.rams → 123 * t.rams ≤ length rams → 123 * (number - 1) + 123 ≤ length rams
-  begun_room ne a b = let q = (number_cases (step2 y).rams c number e).0 ne in omega (arith, a, b, q.1, (place_at c (step2 y).rams q.0).0)
+  module _ (at : ℕ) (w ws : List ℕ) (t : Tally) (rams : List ℕ) where
+    pub begun_done : (w' ws' rams' : List ℕ) (r : Option Added) → (number ≡ 0 → ⊥) → RowDone n c (number - 1) at w ws t rams w' ws' rams' r → RamDone n c at w ws t rams w' ws' rams' r
+    begun_done w' ws' rams' r ne d = let q = (number_cases (step2 n).rams c number e).0 ne in begun q.0 (subst (λ (i : ℕ). RowDone n c i at w ws t rams w' ws' rams' r) q.1 d)
 
-  pub begun_done : (number ≡ 0 → ⊥) → RowDone (tables kinds starts list pins nets) c (number - 1) at w ws t rams w' ws' rams' r → RamDone (tables kinds starts list pins nets) c at w ws t rams w' ws' rams' r
-  begun_done ne d = let q = (number_cases (step2 y).rams c number e).0 ne in begun q.0 (subst (λ (i : ℕ). RowDone y c i at w ws t rams w' ws' rams' r) q.1 d)
+    module _ (z : number ≡ 0) where
+      absent : count c (step2 n).rams ≡ 0
+      absent = (number_cases (step2 n).rams c number e).1 z
 
-  module _ (z : number ≡ 0) where
-    absent : count c (step2 y).rams ≡ 0
-    absent = (number_cases (step2 y).rams c number e).1 z
+      pub fresh_short : length rams < 123 * t.rams + 123 → RamDone n c at w ws t rams w ws rams None
+      fresh_short l = short absent (omega (arith, l)) refl refl refl refl
 
-    pub fresh_short : length rams < 123 * t.rams + 123 → r.fits ≡ false → w' ≡ w → ws' ≡ ws → rams' ≡ rams → RamDone (tables kinds starts list pins nets) c at w ws t rams w' ws' rams' r
-    fresh_short l f a b d = short absent (omega (arith, l)) f (ap length a) (ap length b) (ap length d)
-
-    pub fresh_done : (more : Tally) → 123 * t.rams + 123 ≤ length rams → more ≡ ram_counted t → RowDone (tables kinds starts list pins nets) c t.rams at w ws more rams w' ws' rams' r
-        → RamDone (tables kinds starts list pins nets) c at w ws t rams w' ws' rams' r
-    fresh_done more l em d = fresh absent (omega (arith, l)) (subst (λ (i : Tally). RowDone y c t.rams at w ws i rams w' ws' rams' r) em d)
+      pub fresh_done : (more : Tally) (w' ws' rams' : List ℕ) (r : Option Added) → 123 * t.rams + 123 ≤ length rams → more ≡ ram_counted t → RowDone n c t.rams at w ws more rams w' ws' rams' r
+          → RamDone n c at w ws t rams w' ws' rams' r
+      fresh_done more w' ws' rams' r l em d = fresh absent (omega (arith, l)) (subst (λ (i : Tally). RowDone n c t.rams at w ws i rams w' ws' rams' r) em d)
 
 pub going_more : (n : Netlist) (at : ℕ) (w ws : List ℕ) (t more : Tally) → Going n at w ws t → more ≡ ram_counted t → Going n at w ws more
 going_more n at w ws t more g e = subst (Going n at w ws) (sym e) (record { grounded = g.grounded; table = record { ready = g.table.ready; gates = g.table.gates; few = g.table.few }; keeps = g.keeps })

@@ -1,5 +1,5 @@
 -- What step 3 makes of a RAM: its clocks traced in list order, 32 ANDs, and its row.
-use Rattle.std.specs.Prelude.{◌≡◌, Bool, true, false, ◌&&◌, List, ℕ, zero, suc, ◌+◌, ◌-◌, ◌*◌, ◌<◌, ◌≤◌, length, get_or, if◌then◌else◌, ◌==◌}
+use Rattle.std.specs.Prelude.{◌≡◌, Option, Some, None, OnSome, Bool, true, false, ◌&&◌, List, ℕ, zero, suc, ◌+◌, ◌-◌, ◌*◌, ◌<◌, ◌≤◌, length, get_or, if◌then◌else◌, ◌==◌}
 use Rattle.laws.specs.Tests.{◌<?◌, ◌≤?◌}
 use Rattle.laws.specs.Lists.{count}
 use Rattle.laws.proofs.Indices.{place}
@@ -10,8 +10,6 @@ use Rattle.rules.specs.Graph.{Made, and_of}
 use Rattle.rules.specs.Build.{step2}
 use Rattle.tallies.specs.Counted.{ram_counted}
 use Rattle.words.proofs.Tables.{Writing}
-use Rattle.roles.specs.declared.Entry.{Entry}
-use Rattle.roles.specs.declared.Entry.TheVariants.{Pin, Absent}
 use Rattle.roles.specs.Reading.{either_in, cell_pins, entry_of}
 use Rattle.drafts.specs.declared.Added.{Added}
 use Rattle.drafts.specs.Table.{drafted, Extends}
@@ -21,7 +19,7 @@ use Rattle.rows.specs.Words.{plain_word}
 
 -- ---- the clocks
 -- the clock at k in list order
-abbrev pub clock_at : Netlist → ℕ → ℕ → Entry
+abbrev pub clock_at : Netlist → ℕ → ℕ → Option ℕ
 clock_at n c k = entry_of (either_in n.pins #R_CLK #W_CLK (cell_pins n.starts n.list c)) k
 
 -- both, in list order
@@ -33,9 +31,9 @@ clocks_made n ds c = record {
 }
 
 -- the first of them is the read clock
-abbrev pub reads_first : List ℕ → Entry → Bool
-reads_first pins (Pin p) = get_or pins (5 * p + 1) 0 == #R_CLK
-reads_first pins Absent = true
+abbrev pub reads_first : List ℕ → Option ℕ → Bool
+reads_first pins (Some p) = get_or pins (5 * p + 1) 0 == #R_CLK
+reads_first pins None = true
 
 abbrev pub turned : Bool → Both → Both
 turned true b = b
@@ -50,9 +48,9 @@ abbrev pub bits_made : List Driver → ℕ → (ℕ → ℕ) → ℕ → Made
 bits_made ds w f zero = start_at ds w
 bits_made ds w f (suc i) = and_of (bits_made ds w f i).drivers (f i) w
 
-pub record BitsDone (at : ℕ) (w ws : List ℕ) (t : Tally) (from l : ℕ) (rams w' ws' rams' : List ℕ) (r : Added) : Type 0 where
+pub record BitsDone (at : ℕ) (w ws : List ℕ) (t : Tally) (from l : ℕ) (rams w' ws' rams' : List ℕ) (r : Option Added) : Type 0 where
   pub step : Extends at (bits_made (drafted ws t) l (λ i. get_or rams (from + i) 0) 32) w ws t w' ws' r
-  pub words : r.fits ≡ true → Writing rams from (λ i. (bits_made (drafted ws t) l (λ j. get_or rams (from + j) 0) (suc i)).lit) 32 rams'
+  pub words : OnSome r (Writing rams from (λ i. (bits_made (drafted ws t) l (λ j. get_or rams (from + j) 0) (suc i)).lit) 32 rams')
   pub long : length rams' ≡ length rams
 
 -- ---- the row
@@ -68,9 +66,9 @@ unfoldable pub row_word : Netlist → ℕ → List Driver → ℕ → ℕ → �
 row_word n c ds read write j =
     if j == 0 then read else (if (59 ≤? j) && (j <? 91) then (row_made n c ds write (suc (j - 59))).lit else plain_word n c j)
 
-pub record ClockedDone (n : Netlist) (c k at : ℕ) (w ws : List ℕ) (t : Tally) (read write : ℕ) (rams w' ws' rams' : List ℕ) (r : Added) : Type 0 where
+pub record ClockedDone (n : Netlist) (c k at : ℕ) (w ws : List ℕ) (t : Tally) (read write : ℕ) (rams w' ws' rams' : List ℕ) (r : Option Added) : Type 0 where
   pub step : Extends at (row_made n c (drafted ws t) write 32) w ws t w' ws' r
-  pub row : r.fits ≡ true → Writing rams (123 * k) (row_word n c (drafted ws t) read write) 123 rams'
+  pub row : OnSome r (Writing rams (123 * k) (row_word n c (drafted ws t) read write) 123 rams')
   pub long : length rams' ≡ length rams
 
 -- the clocks traced first
@@ -80,15 +78,15 @@ ram_made n ds c i = row_made n c (ram_clocks n ds c).drivers (ram_clocks n ds c)
 abbrev pub ram_word : Netlist → List Driver → ℕ → ℕ → ℕ
 ram_word n ds c j = row_word n c (ram_clocks n ds c).drivers (ram_clocks n ds c).first (ram_clocks n ds c).second j
 
-pub record RowDone (n : Netlist) (c k at : ℕ) (w ws : List ℕ) (t : Tally) (rams w' ws' rams' : List ℕ) (r : Added) : Type 0 where
+pub record RowDone (n : Netlist) (c k at : ℕ) (w ws : List ℕ) (t : Tally) (rams w' ws' rams' : List ℕ) (r : Option Added) : Type 0 where
   pub step : Extends at (ram_made n (drafted ws t) c 32) w ws t w' ws' r
-  pub row : r.fits ≡ true → Writing rams (123 * k) (ram_word n (drafted ws t) c) 123 rams'
+  pub row : OnSome r (Writing rams (123 * k) (ram_word n (drafted ws t) c) 123 rams')
   pub long : length rams' ≡ length rams
 
 -- a row that step 2 has begun, a new one, or no room for a new one
-pub data RamDone (n : Netlist) (c at : ℕ) (w ws : List ℕ) (t : Tally) (rams w' ws' rams' : List ℕ) (r : Added) : Type 0 where
+pub data RamDone (n : Netlist) (c at : ℕ) (w ws : List ℕ) (t : Tally) (rams w' ws' rams' : List ℕ) (r : Option Added) : Type 0 where
   begun : 0 < count c (step2 n).rams → RowDone n c (place c (step2 n).rams) at w ws t rams w' ws' rams' r → RamDone n c at w ws t rams w' ws' rams' r
   fresh : count c (step2 n).rams ≡ 0 → 123 * (t.rams + 1) ≤ length rams → RowDone n c t.rams at w ws (ram_counted t) rams w' ws' rams' r
       → RamDone n c at w ws t rams w' ws' rams' r
-  short : count c (step2 n).rams ≡ 0 → length rams < 123 * (t.rams + 1) → r.fits ≡ false → length w' ≡ length w → length ws' ≡ length ws → length rams' ≡ length rams
+  short : count c (step2 n).rams ≡ 0 → length rams < 123 * (t.rams + 1) → r ≡ None → length w' ≡ length w → length ws' ≡ length ws → length rams' ≡ length rams
       → RamDone n c at w ws t rams w' ws' rams' r

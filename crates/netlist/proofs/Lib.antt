@@ -1,4 +1,3 @@
-pub mod Kind
 pub mod Once
 pub mod Apart
 pub mod Steps

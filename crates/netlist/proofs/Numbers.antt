@@ -1,6 +1,6 @@
--- 3 to 6 in a row, in the code's shape.
+-- What 3 and 5 say where they let pass.
 use mathlib.Core.Path.{◌≡◌, sym, ◌∙◌}
-use mathlib.Core.Bool.{Bool, true, false, ◌&&◌}
+use mathlib.Core.Bool.{Bool, true, ◌&&◌}
 use mathlib.Core.List.{List}
 use Prim.Native.Nat.{ℕ}
 use native.Mathlib.Omega.{arith}
@@ -11,11 +11,10 @@ use Rattle.laws.specs.Tests.{◌<?◌, ◌≤?◌, same}
 use Rattle.laws.specs.Lists.{every, upto}
 use Rattle.laws.proofs.Tests.{and_l, and_r}
 use Rattle.laws.proofs.Ranges.{of_upto}
-use Rattle.rules.specs.Netlist.{kinds_fit, no_latch, pins_fit}
-use Rattle.rules.specs.Refusals.{tables_number}
+use Rattle.rules.specs.Netlist.{kinds_fit, pins_fit}
 use Rattle.pins.specs.Words.{pin_at, ranged}
 use Rattle.lists.specs.Parts.{laid, own, cell_list, Kinded}
-use Rattle.nets.specs.Driven.{net_driven, driving, Netted}
+use Rattle.nets.specs.Driven.{Netted}
 use Rattle.netlist.specs.Tables.{tables, with_kinds, once, kind_fits, lists_right, pins_right, pins_told, Long}
 use Rattle.netlist.proofs.Steps.{and_assoc}
 
@@ -26,7 +25,7 @@ now_kinded kinds first e t = record {
 }
 
 -- the two rules of 5 are the rules' own
-told_fits : (kinds starts list pins nets : List ℕ) → pins_told kinds starts list pins (length nets) ≡ pins_fit (tables kinds starts list pins nets)
+pub told_fits : (kinds starts list pins nets : List ℕ) → pins_told kinds starts list pins (length nets) ≡ pins_fit (tables kinds starts list pins nets)
 unfolding pins_told lists_right pins_right
 told_fits kinds starts list pins nets =
     sym (and_assoc (lists_right starts (length kinds) list pins (length nets)) _ _)
@@ -46,23 +45,3 @@ now_netted kinds starts list pins nets work third e t g = record {
       let cn : ((pin_at pins 0 p <? length kinds) && (pin_at pins 4 p <? length nets)) ≡ true = and_l ((pin_at pins 0 p <? length kinds) && (pin_at pins 4 p <? length nets)) (pin_at pins 3 p ≤? 1) r in
       ltb-true (pin_at pins 4 p) (length nets) (and_r (pin_at pins 0 p <? length kinds) (pin_at pins 4 p <? length nets) cn);
 }
-
-module _ (kinds starts list pins nets : List ℕ) (first : Bool) (e3 : first ≡ kinds_fit (with_kinds kinds)) where
-  pub give_3 : first ≡ false → 3 ≡ tables_number (tables kinds starts list pins nets)
-  give_3 f = rw (sym e3 ∙ f)
-
-  module _ (t3 : first ≡ true) (second : Bool) (e4 : second ≡ no_latch (with_kinds kinds)) where
-    pub give_4 : second ≡ false → 4 ≡ tables_number (tables kinds starts list pins nets)
-    give_4 f = rw (sym e3 ∙ t3, sym e4 ∙ f)
-
-    module _ (t4 : second ≡ true) (third : Bool) (e5 : third ≡ pins_told kinds starts list pins (length nets)) where
-      pub give_5 : third ≡ false → 5 ≡ tables_number (tables kinds starts list pins nets)
-      give_5 f = rw (sym e3 ∙ t3, sym e4 ∙ t4, sym (told_fits kinds starts list pins nets) ∙ sym e5 ∙ f)
-
-      module _ (t5 : third ≡ true) (fourth : Bool)
-          (e6 : fourth ≡ (every (net_driven pins (length list) nets) (upto (length nets)) && every (driving pins nets) (upto (length list)))) where
-        pub give_6 : fourth ≡ false → 6 ≡ tables_number (tables kinds starts list pins nets)
-        give_6 f = rw (sym e3 ∙ t3, sym e4 ∙ t4, sym (told_fits kinds starts list pins nets) ∙ sym e5 ∙ t5, sym e6 ∙ f)
-
-        pub give_0 : fourth ≡ true → 0 ≡ tables_number (tables kinds starts list pins nets)
-        give_0 t = rw (sym e3 ∙ t3, sym e4 ∙ t4, sym (told_fits kinds starts list pins nets) ∙ sym e5 ∙ t5, sym e6 ∙ t)

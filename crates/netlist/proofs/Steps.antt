@@ -1,18 +1,13 @@
--- Tests 1, 2 and 5, in the code's shape.
+-- Test 5, in the code's shape.
 use mathlib.Core.Path.{◌≡◌, refl, sym, ◌∙◌, ap}
 use mathlib.Core.Bool.{Bool, true, false, ◌&&◌}
 use mathlib.Core.List.{List, [], ◌∷◌}
 use Prim.Native.Nat.{ℕ, ◌+◌, ◌*◌, ◌<◌, ◌≤◌}
 use native.Mathlib.Omega.{arith}
 use lib.ListN.{length, get_or}
-use borrow.Author.Tests.{lt-leb, le-leb, eq-eqb, ne_eqb}
-use Rattle.std.specs.Prelude.{◌==◌}
-use Rattle.laws.specs.Tests.{◌≤?◌}
 use Rattle.laws.specs.Lists.{every, upto}
 use Rattle.laws.proofs.Tests.{true≢false, and_l, and_r, and-false}
 use Rattle.laws.proofs.Ranges.{of_upto}
-use Rattle.rules.specs.declared.NetlistCounts.{NetlistCounts}
-use Rattle.rules.specs.Bounds.{netlist_within}
 use Rattle.rules.specs.Netlist.{has_must}
 use Rattle.rules.specs.Refusals.{below, no_repeat}
 use Rattle.marks.specs.Marking.{Clear, MarkedAll, a_set, no_set}
@@ -21,7 +16,7 @@ use Rattle.pins.proofs.Steps.{ranged_cell}
 use Rattle.lists.specs.Parts.{laid, Starts, fitting, musts}
 use Rattle.lists.proofs.Steps.{starts_are}
 use Rattle.repeats.specs.Alike.{Sorted, Looked}
-use Rattle.netlist.specs.Tables.{without_nets, once, lists_right, Listed, ListsTested, alone, pins_right, pins_told, Long, long_by}
+use Rattle.netlist.specs.Tables.{without_nets, once, lists_right, Listed, ListsTested, alone, pins_right, Long}
 use Rattle.netlist.proofs.Once.{set-once, listed_facts}
 use Rattle.netlist.proofs.Apart.{sorted, looked_alone}
 
@@ -39,47 +34,6 @@ every_and f g (x ∷ l) = rw (every_and f g l) (four (f x) (g x) (every f l) (ev
 pub and_assoc : (a b c : Bool) → (a && b && c) ≡ (a && (b && c))
 and_assoc true b c = refl
 and_assoc false b c = refl
-
--- ---- 1
-module _ (c : NetlistCounts) where
-  pub no_cell : c.cells < 1 → false ≡ netlist_within c
-  no_cell l = rw (lt-leb 1 c.cells l)
-
-  module _ (some : 1 ≤ c.cells) where
-    pub many_cells : 1048576 < c.cells → false ≡ netlist_within c
-    many_cells l = rw (le-leb 1 c.cells some, lt-leb c.cells 1048576 l)
-
-    module _ (few : c.cells ≤ 1048576) where
-      pub many_pins : 1048576 < c.pins → false ≡ netlist_within c
-      many_pins l = rw (le-leb 1 c.cells some, le-leb c.cells 1048576 few, lt-leb c.pins 1048576 l)
-
-      pub within_by : c.pins ≤ 1048576 → (c.nets ≤? 1048576) ≡ netlist_within c
-      within_by l = rw (le-leb 1 c.cells some, le-leb c.cells 1048576 few, le-leb c.pins 1048576 l)
-
--- ---- 2
-module _ (c : NetlistCounts) (kinds starts list pins nets : ℕ) where
-  pub kinds_off : (kinds ≡ c.cells → ⊥) → false ≡ long_by c kinds starts list pins nets
-  unfolding long_by
-  kinds_off n = rw (ne_eqb kinds c.cells n)
-
-  module _ (ek : kinds ≡ c.cells) where
-    pub starts_off : (starts ≡ c.cells + 1 → ⊥) → false ≡ long_by c kinds starts list pins nets
-    unfolding long_by
-    starts_off n = rw (eq-eqb kinds c.cells ek, ne_eqb starts (c.cells + 1) n)
-
-    module _ (es : starts ≡ c.cells + 1) where
-      pub list_off : (list ≡ c.pins → ⊥) → false ≡ long_by c kinds starts list pins nets
-      unfolding long_by
-      list_off n = rw (eq-eqb kinds c.cells ek, eq-eqb starts (c.cells + 1) es, ne_eqb list c.pins n)
-
-      module _ (el : list ≡ c.pins) where
-        pub pins_off : (pins ≡ 5 * c.pins → ⊥) → false ≡ long_by c kinds starts list pins nets
-        unfolding long_by
-        pins_off n = rw (eq-eqb kinds c.cells ek, eq-eqb starts (c.cells + 1) es, eq-eqb list c.pins el, ne_eqb pins (5 * c.pins) n)
-
-        pub long_by_lem : pins ≡ 5 * c.pins → (nets == c.nets) ≡ long_by c kinds starts list pins nets
-        unfolding long_by
-        long_by_lem ep = rw (eq-eqb kinds c.cells ek, eq-eqb starts (c.cells + 1) es, eq-eqb list c.pins el, eq-eqb pins (5 * c.pins) ep)
 
 -- ---- 5, the second rule
 clear_at : (w : List ℕ) (limit : ℕ) → Clear w 0 limit → (p : ℕ) → p < limit → get_or w p 0 ≡ 0
@@ -179,25 +133,7 @@ module _ (kinds starts list pins : List ℕ) (first : Bool) (ef : first ≡ ever
       musts_tell ts r e = e ∙ sym (allowed_parts ∙ rw (sym ef ∙ tf, sym alone_is ∙ ts))
 
 -- ---- 5
-module _ (kinds starts list pins work : List ℕ) (g : Long kinds starts list pins work) where
-  long_starts : length kinds < length starts
-  long_starts = omega (arith, g.starts_long)
-
-  long_pins : 5 * length list ≤ length pins
-  long_pins = omega (arith, g.pins_long)
-
-  module _ (nets : ℕ) (w' : List ℕ) (first : Bool) (e : ListsTested starts (length kinds) list pins nets w' first) where
-    pub lists_refuse : first ≡ false → false ≡ pins_told kinds starts list pins nets
-    unfolding pins_told
-    lists_refuse f = rw (sym e.answer ∙ f)
-
-    module _ (t : first ≡ true) where
-      pub now_listed : Listed starts list pins (length kinds)
-      now_listed = listed starts (length kinds) list pins nets long_starts long_pins (sym e.answer ∙ t)
-
-      pub still_clear : Clear w' (length list) 544
-      still_clear = e.clear t
-
-      pub pins_tell : (r : Bool) → r ≡ pins_right kinds starts list pins → r ≡ pins_told kinds starts list pins nets
-      unfolding pins_told
-      pins_tell r q = rw (sym e.answer ∙ t) q
+pub now_listed : (kinds starts list pins work : List ℕ) → Long kinds starts list pins work → (nets : ℕ) (w' : List ℕ) (first : Bool)
+    → ListsTested starts (length kinds) list pins nets w' first → first ≡ true → Listed starts list pins (length kinds)
+now_listed kinds starts list pins work g nets w' first e t =
+    listed starts (length kinds) list pins nets (omega (arith, g.starts_long)) (omega (arith, g.pins_long)) (sym e.answer ∙ t)

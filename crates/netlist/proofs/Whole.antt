@@ -1,21 +1,18 @@
--- 1 and 2 before 3 to 6, in the code's shape.
+-- What 2 says where it lets pass.
 use mathlib.Core.Path.{◌≡◌, refl, sym, ◌∙◌, ap}
-use mathlib.Core.Bool.{Bool, true, false, ◌&&◌}
+use mathlib.Core.Bool.{Bool, true, ◌&&◌}
 use mathlib.Core.List.{List}
-use Prim.Native.Nat.{ℕ, ◌+◌, ◌*◌, ◌<◌, ◌≤◌}
+use Prim.Native.Nat.{ℕ, ◌+◌, ◌*◌, ◌≤◌}
 use native.Mathlib.Omega.{arith}
 use lib.ListN.{length, get_or}
-use borrow.Author.Tests.{eqb-true, lt-leb, le-leb}
+use borrow.Author.Tests.{eqb-true}
 use Rattle.std.specs.Prelude.{◌==◌}
 use Rattle.laws.specs.Words.{zeros}
 use Rattle.laws.proofs.Tests.{and_l, and_r}
 use Rattle.laws.proofs.Words.{zeros_at, zeros-length}
 use Rattle.rules.specs.declared.NetlistCounts.{NetlistCounts}
-use Rattle.rules.specs.Netlist.{Netlist}
-use Rattle.rules.specs.Bounds.{netlist_within}
-use Rattle.rules.specs.Refusals.{tables_number}
 use Rattle.rules.specs.Answers.{netlist_long}
-use Rattle.netlist.specs.Tables.{tables, Long, long_by, check_tables_number}
+use Rattle.netlist.specs.Tables.{tables, Long, long_by}
 
 pub zeros_self : (w : List ℕ) (n : ℕ) → w ≡ zeros n → w ≡ zeros (length w)
 zeros_self w n e = e ∙ ap zeros (sym (ap length e ∙ zeros-length n))
@@ -53,28 +50,3 @@ module _ (c : NetlistCounts) (kinds starts list pins work : List ℕ) (nets : �
       let l : length list ≡ c.pins = eqb-true (length list) c.pins (and_r (A && B) C abc) in
       let p : length pins ≡ 5 * c.pins = eqb-true (length pins) (5 * c.pins) (and_r (A && B && C) D abcd) in
       long_zeros kinds starts list pins work (omega (arith, k, s)) (omega (arith, l, p)) (omega (arith, l, w)) z
-
-module _ (c : NetlistCounts) (kinds starts list pins nets : List ℕ) (work : ℕ) (within : Bool) (ew : within ≡ netlist_within c) where
-  pub give_1 : within ≡ false → 1 ≡ check_tables_number c (tables kinds starts list pins nets) work
-  unfolding check_tables_number
-  give_1 f = rw (sym ew ∙ f)
-
-  module _ (tw : within ≡ true) (long : Bool) (el : long ≡ long_by c (length kinds) (length starts) (length list) (length pins) (length nets)) where
-    pub give_2 : long ≡ false → 2 ≡ check_tables_number c (tables kinds starts list pins nets) work
-    unfolding check_tables_number long_by
-    give_2 f = rw (sym ew ∙ tw, sym el ∙ f)
-
-    module _ (tl : long ≡ true) where
-      pub give_2_room : work < 8 * c.pins + 1024 → 2 ≡ check_tables_number c (tables kinds starts list pins nets) work
-      unfolding check_tables_number long_by
-      give_2_room l = rw (sym ew ∙ tw, sym el ∙ tl, lt-leb (8 * c.pins + 1024) work l)
-
-      pub give_rest : 8 * c.pins + 1024 ≤ work → (r : ℕ) → r ≡ tables_number (tables kinds starts list pins nets)
-          → r ≡ check_tables_number c (tables kinds starts list pins nets) work
-      unfolding check_tables_number long_by
-      give_rest l r e = rw (sym ew ∙ tw, sym el ∙ tl, le-leb (8 * c.pins + 1024) work l) e
-
--- the answer, by the length that the work words had when lent
-pub checked : (c : NetlistCounts) (n : Netlist) {number : ℕ} {w : List ℕ} (a b d : ℕ) → number ≡ check_tables_number c n b → b ≡ a → w ≡ zeros d → d ≡ b
-    → (number ≡ check_tables_number c n a) × (w ≡ zeros a)
-checked c n a b d e s z t = (e ∙ ap (check_tables_number c n) s, z ∙ ap zeros (t ∙ s))

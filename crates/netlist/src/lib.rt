@@ -4,37 +4,31 @@
 ghost use Rattle.std.specs.Prelude.{◌≡◌, ◌+◌, ◌*◌, ◌<◌, ◌≤◌, length};
 ghost use Rattle.laws.specs.Words.{zeros};
 ghost use Rattle.rules.specs.Netlist.{kinds_fit, no_latch};
+ghost use Rattle.rules.specs.Tables.{netlist_in};
 ghost use Rattle.rules.specs.Bounds.{netlist_within};
 ghost use Rattle.rules.specs.Refusals.{tables_number};
+ghost use Rattle.rules.specs.Answers.{done_of};
 ghost use Rattle.marks.specs.Marking.{Clear};
 ghost use Rattle.lists.specs.Parts.{Kinded};
-ghost use Rattle.netlist.specs.Tables.{tables, with_kinds, kind_fits, ListsTested, Listed, pins_right, pins_told, Long, long_by, check_tables_number};
+ghost use Rattle.netlist.specs.Tables.{with_kinds, kind_fits, ListsTested, Listed, pins_right, pins_told, Long, long_by, check_tables_number};
 
 use lists::{lists_fit, musts_fit, starts_fit};
 use marks::mark_list;
 use nets::nets_fit;
 use pins::{pins_allowed, pins_ranged};
 use repeats::none_twice;
-use rules::NetlistCounts;
+use rules::{NetlistCounts, NetlistTables, Refusal};
 use words::zero;
 
 // 1: counts within their bounds.
 pub fn netlist_within(c: NetlistCounts) -> bool
     ensures { result ≡ netlist_within c }
 {
-    if c.cells < 1 {
-        return false;
-    }
-    if 1048576 < c.cells {
-        return false;
-    }
-    if 1048576 < c.pins {
-        return false;
-    }
-    c.nets <= 1048576
+    (1..=1048576).contains(&c.cells) && c.pins <= 1048576 && c.nets <= 1048576
 }
 
 // 2: tables of the lengths of their counts.
+#[tactic(auto, unfolding(crate::specs::Tables::long_by))]
 pub fn netlist_long(
     c: NetlistCounts,
     kinds: usize,
@@ -47,212 +41,124 @@ pub fn netlist_long(
 {
     let cells = c.cells as usize;
     let size = c.pins as usize;
-    if kinds != cells {
-        return false;
-    }
-    if starts != cells + 1 {
-        return false;
-    }
-    if list != size {
-        return false;
-    }
-    if pins != 5 * size {
-        return false;
-    }
-    nets == c.nets as usize
+    kinds == cells
+        && starts == cells + 1
+        && list == size
+        && pins == 5 * size
+        && nets == c.nets as usize
 }
 
 // A kind up to 12, and the top where and only where it is cell 0.
 fn kind_fits(kind: u32, cell: usize) -> bool
     ensures { result ≡ kind_fits kind cell }
 {
-    if 12 < kind {
-        return false;
-    }
-    if kind == 0 {
-        return cell == 0;
-    }
-    cell != 0
+    kind <= 12 && (kind == 0) == (cell == 0)
 }
 
 // 3: kinds up to 12, cell 0 is the top and no other is.
 fn kinds_fit(kinds: &[u32]) -> bool
     ensures { result ≡ kinds_fit (with_kinds kinds.now) }
 {
-    let mut cell = 0;
-    while cell < kinds.len() {
-        let fits = kind_fits(kinds[cell], cell);
-        if !fits {
-            return false;
-        }
-        cell += 1;
-    }
-    true
+    (0..kinds.len()).all(|cell| kind_fits(kinds[cell], cell))
 }
 
 // 4: no LATCH.
 fn no_latch(kinds: &[u32]) -> bool
     ensures { result ≡ no_latch (with_kinds kinds.now) }
 {
-    let mut cell = 0;
-    while cell < kinds.len() {
-        if kinds[cell] == 12 {
-            return false;
-        }
-        cell += 1;
-    }
-    true
+    kinds.iter().all(|&kind| kind != 12)
 }
 
 // 5, the second rule: starts, the pins' words, and the lists. The pins' marks lie in the first words.
-fn lists_right(
-    starts: &[u32],
-    cells: usize,
-    list: &[u32],
-    pins: &[u32],
-    nets: usize,
-    work: &mut [u32],
-) -> bool
-    requires cells_in_bounds { cells < length starts.now }
-    requires list_in_bounds { 5 * length list.now ≤ length pins.now }
-    requires clear { Clear work.old 0 (length list.now + 544) }
-    ensures { ListsTested starts.now cells list.now pins.now nets work.new result }
+fn lists_right(n: NetlistTables, work: &mut [u32]) -> bool
+    requires starts_in_bounds { length n.kinds.now < length n.starts.now }
+    requires list_in_bounds { 5 * length n.list.now ≤ length n.pins.now }
+    requires clear { Clear work.old 0 (length n.list.now + 544) }
+    ensures { ListsTested n.entry.starts.now (length n.entry.kinds.now) n.entry.list.now n.entry.pins.now (length n.entry.nets.now) work.new result }
 {
-    let size = list.len();
-    let first = starts_fit(starts, cells, size);
-    if !first {
-        return false;
-    }
-    let second = pins_ranged(pins, size, cells, nets);
-    if !second {
-        return false;
-    }
-    let third = lists_fit(starts, cells, list, pins);
-    if !third {
-        return false;
-    }
-    mark_list(list, work, 0, size)
+    let cells = n.kinds.len();
+    let size = n.list.len();
+    starts_fit(n.starts, cells, size)
+        && pins_ranged(n.pins, size, cells, n.nets.len())
+        && lists_fit(n.starts, cells, n.list, n.pins)
+        && mark_list(n.list, work, 0, size)
 }
 
 // 5, the fourth rule: allowed pins, none twice, and the required ones.
-fn pins_right(kinds: &[u32], starts: &[u32], list: &[u32], pins: &[u32], work: &mut [u32]) -> bool
-    requires kinded { Kinded kinds.now }
-    requires listed { Listed starts.now list.now pins.now (length kinds.now) }
-    requires clear { Clear work.old (length list.now) 544 }
-    ensures { result ≡ pins_right kinds.now starts.now list.now pins.now }
+fn pins_right(n: NetlistTables, work: &mut [u32]) -> bool
+    requires kinded { Kinded n.kinds.now }
+    requires listed { Listed n.starts.now n.list.now n.pins.now (length n.kinds.now) }
+    requires clear { Clear work.old (length n.list.now) 544 }
+    ensures { result ≡ pins_right n.entry.kinds.now n.entry.starts.now n.entry.list.now n.entry.pins.now }
 {
-    let size = list.len();
-    let first = pins_allowed(kinds, pins, size);
-    if !first {
-        return false;
-    }
-    let second = none_twice(list, pins, work, size);
-    if !second {
-        return false;
-    }
-    musts_fit(kinds, starts, list, pins)
+    let size = n.list.len();
+    pins_allowed(n.kinds, n.pins, size)
+        && none_twice(n.list, n.pins, work, size)
+        && musts_fit(n.kinds, n.starts, n.list, n.pins)
 }
 
 // 5: both rules.
-fn pins_fit(
-    kinds: &[u32],
-    starts: &[u32],
-    list: &[u32],
-    pins: &[u32],
-    nets: usize,
-    work: &mut [u32],
-) -> bool
-    requires kinded { Kinded kinds.now }
-    requires long { Long kinds.now starts.now list.now pins.now work.old }
-    ensures { result ≡ pins_told kinds.now starts.now list.now pins.now nets }
+#[tactic(auto, unfolding(crate::specs::Tables::pins_told))]
+fn pins_fit(n: NetlistTables, work: &mut [u32]) -> bool
+    requires kinded { Kinded n.kinds.now }
+    requires long { Long n.kinds.now n.starts.now n.list.now n.pins.now work.old }
+    ensures { result ≡ pins_told n.entry.kinds.now n.entry.starts.now n.entry.list.now n.entry.pins.now (length n.entry.nets.now) }
 {
-    let first = lists_right(starts, kinds.len(), list, pins, nets, work);
-    if !first {
-        return false;
-    }
-    pins_right(kinds, starts, list, pins, work)
+    lists_right(n, work) && pins_right(n, work)
 }
 
 // 3 to 6, of tables of the lengths that 2 asks for. Of the work words only the length is kept.
-pub fn tables_number(
-    kinds: &[u32],
-    starts: &[u32],
-    list: &[u32],
-    pins: &[u32],
-    nets: &[u32],
-    work: &mut [u32],
-) -> u32
-    requires { Long kinds.now starts.now list.now pins.now work.old }
-    ensures { result ≡ tables_number (tables kinds.now starts.now list.now pins.now nets.now) }
+#[tactic(auto, using(crate::proofs::Numbers::told_fits))]
+pub fn test_tables(n: NetlistTables, work: &mut [u32]) -> Result<(), Refusal>
+    requires { Long n.kinds.now n.starts.now n.list.now n.pins.now work.old }
+    ensures { result ≡ done_of (tables_number (netlist_in n.entry)) }
 {
-    let first = kinds_fit(kinds);
-    if !first {
-        return 3;
+    if !kinds_fit(n.kinds) {
+        return Err(Refusal::Kinds);
     }
-    let second = no_latch(kinds);
-    if !second {
-        return 4;
+    if !no_latch(n.kinds) {
+        return Err(Refusal::Latch);
     }
-    let third = pins_fit(kinds, starts, list, pins, nets.len(), work);
-    if !third {
-        return 5;
+    if !pins_fit(n, work) {
+        return Err(Refusal::PinLists);
     }
-    let fourth = nets_fit(pins, list.len(), nets);
-    if !fourth {
-        return 6;
+    if !nets_fit(n.pins, n.list.len(), n.nets) {
+        return Err(Refusal::Nets);
     }
-    0
+    Ok(())
 }
 
 // 1 and 2, then 3 to 6.
-fn netlist_number(
-    c: NetlistCounts,
-    kinds: &[u32],
-    starts: &[u32],
-    list: &[u32],
-    pins: &[u32],
-    nets: &[u32],
-    work: &mut [u32],
-) -> u32
+#[tactic(auto, unfolding(crate::specs::Tables::long_by, crate::specs::Tables::check_tables_number))]
+fn test_netlist(c: NetlistCounts, n: NetlistTables, work: &mut [u32]) -> Result<(), Refusal>
     requires { work.old ≡ zeros (length work.old) }
-    ensures { result ≡ check_tables_number c (tables kinds.now starts.now list.now pins.now nets.now) (length work.old) }
+    ensures { result ≡ done_of (check_tables_number c (netlist_in n.entry) (length work.old)) }
 {
-    let within = netlist_within(c);
-    if !within {
-        return 1;
+    if !netlist_within(c) {
+        return Err(Refusal::Bounds);
     }
     let long = netlist_long(
         c,
-        kinds.len(),
-        starts.len(),
-        list.len(),
-        pins.len(),
-        nets.len(),
+        n.kinds.len(),
+        n.starts.len(),
+        n.list.len(),
+        n.pins.len(),
+        n.nets.len(),
     );
-    if !long {
-        return 2;
-    }
     let room = 8 * c.pins as usize + 1024;
-    if work.len() < room {
-        return 2;
+    if !long || work.len() < room {
+        return Err(Refusal::Lengths);
     }
-    tables_number(kinds, starts, list, pins, nets, work)
+    test_tables(n, work)
 }
 
 // The netlist check: any tables, however broken, and work words of any content.
-pub fn check_tables(
-    c: NetlistCounts,
-    kinds: &[u32],
-    starts: &[u32],
-    list: &[u32],
-    pins: &[u32],
-    nets: &[u32],
-    work: &mut [u32],
-) -> u32
-    ensures { (result ≡ check_tables_number c (tables kinds.now starts.now list.now pins.now nets.now) (length work.old)) × (work.new ≡ zeros (length work.old)) }
+pub fn check_tables(c: NetlistCounts, n: NetlistTables, work: &mut [u32]) -> Result<(), Refusal>
+    ensures answer { result ≡ done_of (check_tables_number c (netlist_in n.entry) (length work.old)) }
+    ensures zero { work.new ≡ zeros (length work.old) }
 {
     zero(work);
-    let number = netlist_number(c, kinds, starts, list, pins, nets, work);
+    let outcome = test_netlist(c, n, work);
     zero(work);
-    number
+    outcome
 }

@@ -13,9 +13,9 @@ ghost use Rattle.std.specs.Prelude.{◌≡◌, ◌<◌, ◌≤◌, length};
 
 use checks::{check_all, check_netlist};
 use prints::{print_words, read_full};
-use rules::NetlistCounts;
+use rules::{NetlistCounts, NetlistTables};
 use std::io;
-use words::{all_zero, copy};
+use words::all_zero;
 
 // A number of the text, and where the text goes on.
 #[derive(Drop)]
@@ -36,32 +36,27 @@ fn low(value: u64) -> u32 {
 
 // The digits from a place on, up to the byte behind them.
 fn number(text: &[u8], at: usize) -> Token {
-    let mut i = at;
     let mut value = 0u64;
-    while i < text.len() {
+    for i in at..text.len() {
         let byte = text[i];
-        i += 1;
         if byte < 48 {
             return Token {
                 value: low(value),
-                next: i,
+                next: i + 1,
             };
         }
         value = value % 1000000000 * 10 + digit(byte);
     }
     Token {
         value: low(value),
-        next: i,
+        next: text.len(),
     }
 }
 
 fn at_most(n: u32, most: usize) -> usize
     ensures { result ≤ most }
 {
-    if most < n as usize {
-        return most;
-    }
-    n as usize
+    most.min(n as usize)
 }
 
 fn put(words: &mut [u32], place: usize, word: u32) {
@@ -77,12 +72,10 @@ fn write_words(text: &[u8], at: usize, words: &mut [u32]) -> usize {
     let place = at_most(first.value, 4128);
     let n = at_most(count.value, 4128);
     let mut next = count.next;
-    let mut i = 0;
-    while i < n {
+    for i in 0..n {
         let word = number(text, next);
         put(words, place + i, word.value);
         next = word.next;
-        i += 1;
     }
     next
 }
@@ -90,15 +83,12 @@ fn write_words(text: &[u8], at: usize, words: &mut [u32]) -> usize {
 // Changes the words that a case names. Answers where the text goes on.
 fn change_words(text: &[u8], at: usize, words: &mut [u32]) -> usize {
     let count = number(text, at);
-    let n = count.value;
     let mut next = count.next;
-    let mut i = 0;
-    while i < n {
+    for _ in 0..count.value {
         let place = number(text, next);
         let word = number(text, place.next);
         put(words, place.value as usize, word.value);
         next = word.next;
-        i += 1;
     }
     next
 }
@@ -111,28 +101,32 @@ fn counts(words: &[u32; 4128]) -> NetlistCounts {
     }
 }
 
-// What a call answers: check_all, or check_netlist.
+// What a call answers, as its number, 0 where it refuses nothing: check_all, or check_netlist.
 fn asked(words: &[u32; 4128], all: bool, work: &mut [u32]) -> u32 {
     let c = counts(words);
     let whole = &words[..];
-    let kinds = &whole[16..16 + at_most(words[3], 256)];
-    let starts = &whole[272..272 + at_most(words[4], 272)];
-    let list = &whole[544..544 + at_most(words[5], 512)];
-    let pins = &whole[1056..1056 + at_most(words[6], 2560)];
-    let nets = &whole[3616..3616 + at_most(words[7], 512)];
-    if all {
-        return check_all(c, kinds, starts, list, pins, nets, work);
+    let n = NetlistTables {
+        kinds: &whole[16..16 + at_most(words[3], 256)],
+        starts: &whole[272..272 + at_most(words[4], 272)],
+        list: &whole[544..544 + at_most(words[5], 512)],
+        pins: &whole[1056..1056 + at_most(words[6], 2560)],
+        nets: &whole[3616..3616 + at_most(words[7], 512)],
+    };
+    let outcome = if all {
+        check_all(c, n, work)
+    } else {
+        check_netlist(c, n, work)
+    };
+    match outcome {
+        Ok(()) => 0,
+        Err(refusal) => refusal.number(),
     }
-    check_netlist(c, kinds, starts, list, pins, nets, work)
 }
 
 // The same, or 99 where the call leaves a work word.
 fn asked_cleanly(words: &[u32; 4128], all: bool, work: &mut [u32]) -> u32 {
     let number = asked(words, all, work);
-    if !all_zero(work) {
-        return 99;
-    }
-    number
+    if all_zero(work) { number } else { 99 }
 }
 
 // Work words that are full of other words.
@@ -152,10 +146,8 @@ fn answer(words: &[u32; 4128], all: bool) -> u32 {
 // One more answer of this number.
 fn tally(seen: &mut [u32; 11], number: u32) {
     let i = number as usize;
-    if i < 11 {
-        if seen[i] < 1000000 {
-            seen[i] += 1;
-        }
+    if i < 11 && seen[i] < 1000000 {
+        seen[i] += 1;
     }
 }
 
@@ -187,8 +179,7 @@ fn run_case(
 ) -> io::Result<usize> {
     let first = number(text, at);
     let second = number(text, first.next);
-    let mut words = [0u32; 4128];
-    copy(base, 0, &mut words, 0, 4128);
+    let mut words = *base;
     let next = change_words(text, second.next, &mut words);
     compare(rt, &words, false, first.value, at, nine)?;
     compare(rt, &words, true, second.value, at, ten)?;
@@ -219,12 +210,9 @@ fn run_all(
 ) -> io::Result<()> {
     let mut base = [0u32; 4128];
     let records = number(text, 0);
-    let n = records.value;
     let mut next = records.next;
-    let mut i = 0;
-    while i < n {
+    for _ in 0..records.value {
         next = run_record(rt, text, next, &mut base, nine, ten)?;
-        i += 1;
     }
     Ok(())
 }

@@ -7,7 +7,6 @@ ghost use Rattle.pins.specs.Words.{pin_at};
 ghost use Rattle.nets.specs.Driven.{driven, driving, net_driven, Netted};
 
 use pins::pin_word;
-use words::word;
 
 // A net is constant, or its word names an out pin on it.
 fn net_driven(pins: &[u32], size: usize, driver: u32, net: usize) -> bool
@@ -18,15 +17,7 @@ fn net_driven(pins: &[u32], size: usize, driver: u32, net: usize) -> bool
         return true;
     }
     let p = (driver - 2) as usize;
-    if size <= p {
-        return false;
-    }
-    let direction = pin_word(pins, 3, p);
-    if direction != 1 {
-        return false;
-    }
-    let on = pin_word(pins, 4, p) as usize;
-    on == net
+    p < size && pin_word(pins, 3, p) == 1 && pin_word(pins, 4, p) as usize == net
 }
 
 // The same of every net.
@@ -34,15 +25,7 @@ fn nets_driven(pins: &[u32], size: usize, nets: &[u32]) -> bool
     requires { 5 * size ≤ length pins.now }
     ensures { result ≡ every (net_driven pins.now size nets.now) (upto (length nets.now)) }
 {
-    let mut net = 0;
-    while net < nets.len() {
-        let fits = net_driven(pins, size, nets[net], net);
-        if !fits {
-            return false;
-        }
-        net += 1;
-    }
-    true
+    (0..nets.len()).all(|net| net_driven(pins, size, nets[net], net))
 }
 
 // An out pin is the one that its net names.
@@ -51,13 +34,8 @@ fn pin_drives(pins: &[u32], nets: &[u32], p: usize) -> bool
     requires p_in_bounds_2 { pin_at pins.now 4 p < length nets.now }
     ensures { result ≡ driving pins.now nets.now p }
 {
-    let direction = pin_word(pins, 3, p);
-    if direction != 1 {
-        return true;
-    }
     let net = pin_word(pins, 4, p) as usize;
-    let driver = word(nets, net) as usize;
-    driver == 2 + p
+    pin_word(pins, 3, p) != 1 || nets[net] as usize == 2 + p
 }
 
 // The same of every pin.
@@ -65,15 +43,7 @@ fn pins_drive(pins: &[u32], size: usize, nets: &[u32]) -> bool
     requires { Netted pins.now size nets.now }
     ensures { result ≡ every (driving pins.now nets.now) (upto size) }
 {
-    let mut p = 0;
-    while p < size {
-        let fits = pin_drives(pins, nets, p);
-        if !fits {
-            return false;
-        }
-        p += 1;
-    }
-    true
+    (0..size).all(|p| pin_drives(pins, nets, p))
 }
 
 // The net rule, of pins whose nets are in range.
@@ -81,9 +51,5 @@ pub fn nets_fit(pins: &[u32], size: usize, nets: &[u32]) -> bool
     requires { Netted pins.now size nets.now }
     ensures { result ≡ (every (net_driven pins.now size nets.now) (upto (length nets.now)) && every (driving pins.now nets.now) (upto size)) }
 {
-    let first = nets_driven(pins, size, nets);
-    if !first {
-        return false;
-    }
-    pins_drive(pins, size, nets)
+    nets_driven(pins, size, nets) && pins_drive(pins, size, nets)
 }

@@ -10,22 +10,21 @@ use lib.Seq.{take-suc, take_all}
 use borrow.Author.Tests.{eq-eqb, ne_eqb}
 use Rattle.laws.specs.Lists.{keep}
 use Rattle.laws.specs.Words.{part}
-use Rattle.laws.proofs.Tests.{true≢false}
 use Rattle.laws.proofs.Bags.{keep_append}
 use Rattle.laws.proofs.Words.{part_none, part-more, part_length, part_at, part_is, zero_from_more}
 use Rattle.rules.specs.declared.GraphCounts.{GraphCounts}
 use Rattle.reads.specs.Reads.{ins_of}
 use Rattle.levels.specs.State.{Lefts}
 use Rattle.members.specs.Set.{SetIn}
-use Rattle.picks.specs.Tables.{picks, low_ins, take_test, free_test, Open, Pushed, Pushing, pushed, full}
+use Rattle.picks.specs.Tables.{picks, low_ins, take_test, free_test, Open, Full, Pushed}
 
 -- ---- one word
 module _ (t : List ℕ) (n v : ℕ) (o : Open t n) where
-  pub push_full : length t ≤ n → Pushing t n (v ∷ []) t n false
-  push_full l = full (omega arith) refl refl
+  pub push_full : length t ≤ n → Full t n (v ∷ []) t
+  push_full l = record { small = omega arith; long = refl }
 
-  pub push_one : n < length t → Pushing t n (v ∷ []) (set t n v) (n + 1) true
-  push_one l = pushed (record {
+  pub push_one : n < length t → Pushed t n (v ∷ []) (set t n v) (n + 1)
+  push_one l = record {
     count = refl;
     ready = record { inside = omega (arith, length-set t n v); zero = zero_from_more t n v o.zero };
     inside = omega (arith, length-set t n v);
@@ -33,7 +32,7 @@ module _ (t : List ℕ) (n v : ℕ) (o : Open t n) where
     words = let e : 0 + n ≡ n = omega arith in ap (λ (k : ℕ). part (set t k v) 0 (n + 1)) (sym e) ∙ part-more t 0 n v (omega arith);
     added = let e : n + 0 ≡ n = omega arith in let e' : 0 + 1 ≡ 1 = refl in
         ap (λ (k : ℕ). part (set t k v) n 1) (sym e) ∙ part-more t n 0 v (omega arith) ∙ ap (λ (x : List ℕ). x ++ (v ∷ [])) (part_none t n);
-  }) refl
+  }
 
 -- ---- none, and more
 pub pushed_none : (t : List ℕ) (n : ℕ) → Open t n → Pushed t n [] t n
@@ -87,20 +86,19 @@ module _ (f : ℕ → Bool) (l t₀ : List ℕ) (first : ℕ) (t : List ℕ) (n 
   pub push_open : Open t n
   push_open = s.done.ready
 
-  module _ (h : i < length l) (x : ℕ) (q : x ≡ get_or l i 0) (t' : List ℕ) (n' : ℕ) (ok : Bool) where
+  module _ (h : i < length l) (x : ℕ) (q : x ≡ get_or l i 0) (t' : List ℕ) where
     more : picks f (take (i + 1) l) ≡ picks f (take i l) ++ picks f (x ∷ [])
     unfolding picks
     more = ap (λ (k : ℕ). keep f (take k l)) (add-one i) ∙ ap (keep f) (take-suc l i 0 h) ∙ keep_append f (take i l) (get_or l i 0 ∷ [])
         ∙ ap (λ (y : ℕ). keep f (take i l) ++ keep f (y ∷ [])) (sym q)
 
-    pub push_goes_on : Pushing t n (picks f (x ∷ [])) t' n' ok → ok ≡ true → PushTo f l t₀ first t' n' (i + 1)
-    push_goes_on (pushed p e) v = record {
+    pub push_goes_on : (n' : ℕ) → Pushed t n (picks f (x ∷ [])) t' n' → PushTo f l t₀ first t' n' (i + 1)
+    push_goes_on n' p = record {
       inside = omega arith;
       open₀ = s.open₀;
       done = subst (λ (y : List ℕ). Pushed t₀ first y t' n') (sym more) (pushed_on t₀ first (picks f (take i l)) t n s.done (picks f (x ∷ [])) t' n' p s.open₀);
       same_length = p.long ∙ s.same_length;
     }
-    push_goes_on (full a b e) v = true≢false ok v e
 
     -- what is still to come makes the list no shorter
     shorter : length (picks f (take (i + 1) l)) ≤ length (picks f l)
@@ -108,40 +106,42 @@ module _ (f : ℕ → Bool) (l t₀ : List ℕ) (first : ℕ) (t : List ℕ) (n 
     shorter = let e = keep_append f (take (i + 1) l) (drop (i + 1) l) in
         omega (arith, ap length (ap (keep f) (sym (lib.ListN.take-append-drop (i + 1) l)) ∙ e), length-append (keep f (take (i + 1) l)) (keep f (drop (i + 1) l)))
 
-    pub push_fails : Pushing t n (picks f (x ∷ [])) t' n' ok → ok ≡ false → Pushing t₀ first (picks f l) t' n' ok
-    push_fails (pushed p e) v = true≢false ok e v
-    push_fails (full a b e) v = full (omega (arith, a, s.same_length, s.done.count, ap length more, length-append (picks f (take i l)) (picks f (x ∷ [])), shorter)) (b ∙ s.same_length) v
+    pub push_fails : Full t n (picks f (x ∷ [])) t' → Full t₀ first (picks f l) t'
+    push_fails p = record {
+      small = omega (arith, p.small, s.same_length, s.done.count, ap length more, length-append (picks f (take i l)) (picks f (x ∷ [])), shorter);
+      long = p.long ∙ s.same_length;
+    }
 
-  pub push_ends : length l ≤ i → Pushing t₀ first (picks f l) t n true
-  push_ends h = pushed (subst (λ (y : List ℕ). Pushed t₀ first (picks f y) t n) (take_all i l h) s.done) refl
+  pub push_ends : length l ≤ i → Pushed t₀ first (picks f l) t n
+  push_ends h = subst (λ (y : List ℕ). Pushed t₀ first (picks f y) t n) (take_all i l h) s.done
 
 -- ---- the tests in the code's shape
-module _ (f : ℕ → Bool) (x : ℕ) (t : List ℕ) (n : ℕ) where
-  pub test_no : Open t n → f x ≡ false → Pushing t n (picks f (x ∷ [])) t n true
+module _ (f : ℕ → Bool) (x : ℕ) where
+  pub test_no : (t : List ℕ) (n : ℕ) → Open t n → f x ≡ false → Pushed t n (picks f (x ∷ [])) t n
   unfolding picks
-  test_no o e = pushed (rw e (pushed_none t n o)) refl
+  test_no t n o e = rw e (pushed_none t n o)
 
-  pub test_yes : f x ≡ true → (t' : List ℕ) (n' : ℕ) (ok : Bool) → Pushing t n (x ∷ []) t' n' ok → Pushing t n (picks f (x ∷ [])) t' n' ok
+  pub test_yes : f x ≡ true → picks f (x ∷ []) ≡ x ∷ []
   unfolding picks
-  test_yes e t' n' ok p = rw e p
+  test_yes e = rw e
 
-module _ (c : GraphCounts) (os ds rs : List ℕ) (m : ℕ) (w : List ℕ) (d e : ℕ) (b : Bool) (q : b ≡ low_ins m w d (ins_of c os ds rs e)) (t : List ℕ) (n : ℕ) where
-  pub take_no : Open t n → b ≡ false → Pushing t n (picks (take_test c os ds rs m w d) (e ∷ [])) t n true
+module _ (c : GraphCounts) (os ds rs : List ℕ) (m : ℕ) (w : List ℕ) (d e : ℕ) (b : Bool) (q : b ≡ low_ins m w d (ins_of c os ds rs e)) where
+  pub take_no : (t : List ℕ) (n : ℕ) → Open t n → b ≡ false → Pushed t n (picks (take_test c os ds rs m w d) (e ∷ [])) t n
   unfolding take_test
-  take_no o f = test_no (take_test c os ds rs m w d) e t n o (sym q ∙ f)
+  take_no t n o f = test_no (take_test c os ds rs m w d) e t n o (sym q ∙ f)
 
-  pub take_yes : b ≡ true → (t' : List ℕ) (n' : ℕ) (ok : Bool) → Pushing t n (e ∷ []) t' n' ok → Pushing t n (picks (take_test c os ds rs m w d) (e ∷ [])) t' n' ok
+  pub take_yes : b ≡ true → picks (take_test c os ds rs m w d) (e ∷ []) ≡ e ∷ []
   unfolding take_test
-  take_yes f = test_yes (take_test c os ds rs m w d) e t n (sym q ∙ f)
+  take_yes f = test_yes (take_test c os ds rs m w d) e (sym q ∙ f)
 
-module _ (m : ℕ) (w : List ℕ) (p x : ℕ) (q : x ≡ get_or w (m + p) 0) (t : List ℕ) (n : ℕ) where
-  pub hand_no : Open t n → (x ≡ 0 → ⊥) → Pushing t n (picks (free_test m w) (p ∷ [])) t n true
+module _ (m : ℕ) (w : List ℕ) (p x : ℕ) (q : x ≡ get_or w (m + p) 0) where
+  pub hand_no : (t : List ℕ) (n : ℕ) → Open t n → (x ≡ 0 → ⊥) → Pushed t n (picks (free_test m w) (p ∷ [])) t n
   unfolding free_test
-  hand_no o z = test_no (free_test m w) p t n o (ne_eqb (get_or w (m + p) 0) 0 (λ e. z (q ∙ e)))
+  hand_no t n o z = test_no (free_test m w) p t n o (ne_eqb (get_or w (m + p) 0) 0 (λ e. z (q ∙ e)))
 
-  pub hand_yes : x ≡ 0 → (t' : List ℕ) (n' : ℕ) (ok : Bool) → Pushing t n (p ∷ []) t' n' ok → Pushing t n (picks (free_test m w) (p ∷ [])) t' n' ok
+  pub hand_yes : x ≡ 0 → picks (free_test m w) (p ∷ []) ≡ p ∷ []
   unfolding free_test
-  hand_yes z = test_yes (free_test m w) p t n (eq-eqb (get_or w (m + p) 0) 0 (sym q ∙ z))
+  hand_yes z = test_yes (free_test m w) p (eq-eqb (get_or w (m + p) 0) 0 (sym q ∙ z))
 
 -- ---- the loops over the words of a part
 pub record PartTo (f : ℕ → Bool) (w : List ℕ) (a k : ℕ) (t₀ : List ℕ) (first : ℕ) (t : List ℕ) (n i : ℕ) : Type 0 where
@@ -160,18 +160,18 @@ module _ (f : ℕ → Bool) (w : List ℕ) (a k : ℕ) (t₀ : List ℕ) (first 
   k_is : length (part w a k) ≡ k
   k_is = part_length w a k s.long
 
-  module _ (h : i < k) (x : ℕ) (q : x ≡ get_or w (a + i) 0) (t' : List ℕ) (n' : ℕ) (ok : Bool) (p : Pushing t n (picks f (x ∷ [])) t' n' ok) where
+  module _ (h : i < k) (x : ℕ) (q : x ≡ get_or w (a + i) 0) (t' : List ℕ) where
     x_is : x ≡ get_or (part w a k) i 0
     x_is = q ∙ sym (part_at w a k i h)
 
-    pub part_goes_on : ok ≡ true → PartTo f w a k t₀ first t' n' (i + 1)
-    part_goes_on v = let d = push_goes_on f (part w a k) t₀ first t n i s.done (omega (arith, k_is)) x x_is t' n' ok p v in
+    pub part_goes_on : (n' : ℕ) → Pushed t n (picks f (x ∷ [])) t' n' → PartTo f w a k t₀ first t' n' (i + 1)
+    part_goes_on n' p = let d = push_goes_on f (part w a k) t₀ first t n i s.done (omega (arith, k_is)) x x_is t' n' p in
         record { inside = omega arith; long = s.long; done = d; same_length = d.same_length }
 
-    pub part_fails : ok ≡ false → Pushing t₀ first (picks f (part w a k)) t' n' ok
-    part_fails v = push_fails f (part w a k) t₀ first t n i s.done (omega (arith, k_is)) x x_is t' n' ok p v
+    pub part_fails : Full t n (picks f (x ∷ [])) t' → Full t₀ first (picks f (part w a k)) t'
+    part_fails p = push_fails f (part w a k) t₀ first t n i s.done (omega (arith, k_is)) x x_is t' p
 
-  pub part_ends : k ≤ i → Pushing t₀ first (picks f (part w a k)) t n true
+  pub part_ends : k ≤ i → Pushed t₀ first (picks f (part w a k)) t n
   part_ends l = push_ends f (part w a k) t₀ first t n i s.done (omega (arith, k_is))
 
 pub left_below : (w : List ℕ) (m n e i x : ℕ) → Lefts w m n e → i < n → x ≡ get_or w (8 * m + i) 0 → x < e

@@ -1,5 +1,5 @@
 -- Tests by the words of levels and stops, and what it is to write behind what a table holds already.
-use Rattle.std.specs.Prelude.{◌≡◌, Bool, true, false, List, ◌++◌, ℕ, ◌+◌, ◌<◌, ◌≤◌, length, get_or, drop, ◌==◌}
+use Rattle.std.specs.Prelude.{◌≡◌, Option, Some, None, Bool, List, ◌++◌, ℕ, ◌+◌, ◌<◌, ◌≤◌, length, get_or, drop, ◌==◌}
 use Rattle.laws.specs.Lists.{keep, every}
 use Rattle.laws.specs.Words.{part, ZeroFrom}
 use Rattle.rules.specs.declared.GraphCounts.{GraphCounts}
@@ -40,7 +40,12 @@ pub record Pushed (t : List ℕ) (n : ℕ) (ws t' : List ℕ) (n' : ℕ) : Type 
   pub words : part t' 0 n' ≡ part t 0 n ++ ws
   pub added : part t' n (length ws) ≡ ws
 
+-- they do not fit
+pub record Full (t : List ℕ) (n : ℕ) (ws t' : List ℕ) : Type 0 where
+  pub small : length t < n + length ws
+  pub long : length t' ≡ length t
+
 -- what writing the words ws behind the first n leaves: they stand there, or they do not fit
-pub data Pushing (t : List ℕ) (n : ℕ) (ws t' : List ℕ) (n' : ℕ) (ok : Bool) : Type 0 where
-  pushed : Pushed t n ws t' n' → ok ≡ true → Pushing t n ws t' n' ok
-  full : length t < n + length ws → length t' ≡ length t → ok ≡ false → Pushing t n ws t' n' ok
+abbrev pub Pushing : List ℕ → ℕ → List ℕ → List ℕ → Option ℕ → Type 0
+Pushing t n ws t' (Some n') = Pushed t n ws t' n'
+Pushing t n ws t' None = Full t n ws t'

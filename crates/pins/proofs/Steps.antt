@@ -5,7 +5,7 @@ use mathlib.Core.List.{List, [], ◌∷◌}
 use Prim.Native.Nat.{ℕ, ◌<◌, ◌≤◌}
 use native.Mathlib.Omega.{arith}
 use lib.ListN.{length, get_or}
-use borrow.Author.Tests.{le-ltb, lt-ltb, ltb-true, leb-true, eqb-true}
+use borrow.Author.Tests.{ltb-true, leb-true, eqb-true}
 use Rattle.std.specs.Prelude.{◌==◌}
 use Rattle.laws.specs.Tests.{◌<?◌, ◌≤?◌, same}
 use Rattle.laws.specs.Lists.{any, every}
@@ -13,23 +13,9 @@ use Rattle.laws.proofs.Tests.{by_test, true≢false, and_l, and_r, or_cases}
 use Rattle.rules.specs.Netlist.{Slot, Kind, top, and2, inv, buf, dff, clock_gate, ram, unfit, slots, kind_of}
 use Rattle.kinds.specs.Slots.{kind_word, slot_allows}
 use Rattle.kinds.proofs.Allow.{allowed}
-use Rattle.pins.specs.Words.{pin_at, ranged, Held, Ranged, slotted, with_pins}
+use Rattle.pins.specs.Words.{pin_at, ranged, Held, slotted, with_pins}
 
 -- ---- ranges
-module _ (pins : List ℕ) (cells nets p : ℕ) (cell : ℕ) (ec : cell ≡ pin_at pins 0 p) where
-  pub cell_out : cells ≤ cell → false ≡ ranged pins cells nets p
-  cell_out l = rw (le-ltb (pin_at pins 0 p) cells (omega (arith, ec)))
-
-  module _ (cell_in : cell < cells) (net : ℕ) (en : net ≡ pin_at pins 4 p) where
-    first : (pin_at pins 0 p <? cells) ≡ true
-    first = lt-ltb (pin_at pins 0 p) cells (omega (arith, ec))
-
-    pub net_out : nets ≤ net → false ≡ ranged pins cells nets p
-    net_out l = rw (first, le-ltb (pin_at pins 4 p) nets (omega (arith, en)))
-
-    pub ranged_by : net < nets → (direction : ℕ) → direction ≡ pin_at pins 3 p → (direction ≤? 1) ≡ ranged pins cells nets p
-    ranged_by l direction e = rw (first, lt-ltb (pin_at pins 4 p) nets (omega (arith, en)), e)
-
 pub ranged_cell : (pins : List ℕ) (cells nets p : ℕ) → ranged pins cells nets p ≡ true → pin_at pins 0 p < cells
 ranged_cell pins cells nets p t =
     ltb-true (pin_at pins 0 p) cells (and_l (pin_at pins 0 p <? cells) (pin_at pins 4 p <? nets)
@@ -72,9 +58,6 @@ slotted_small kinds pins p t =
     (all_small (kind_of (with_pins kinds pins) (pin_at pins 0 p))) t
 
 -- ---- allowed pins
-pub held_at : (kinds pins : List ℕ) (size p : ℕ) → Ranged kinds pins size → p < size → Held kinds pins p
-held_at kinds pins size p r l = record { long = omega (arith, r.long); cell = r.cell p l; kind = r.kind (pin_at pins 0 p) (r.cell p l) }
-
 module _ (kinds pins : List ℕ) (p : ℕ) (h : Held kinds pins p) (name : ℕ) (en : name ≡ pin_at pins 1 p) where
   pub name_large : 17 ≤ name → false ≡ slotted kinds pins p
   name_large l = by_test (slotted kinds pins p) (λ t. absurd (omega (arith, (slotted_small kinds pins p t).0))) (λ f. sym f)

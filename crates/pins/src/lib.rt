@@ -6,7 +6,6 @@ ghost use Rattle.laws.specs.Lists.{every, upto};
 ghost use Rattle.pins.specs.Words.{pin_at, ranged, Held, Ranged, slotted};
 
 use kinds::{kind_word, slot_allows};
-use words::word;
 
 // Word i of a pin: its cell, name, bit, direction and net.
 pub fn pin_word(pins: &[u32], i: usize, p: usize) -> u32
@@ -22,15 +21,9 @@ fn pin_ranged(pins: &[u32], p: usize, cells: usize, nets: usize) -> bool
     ensures { result ≡ ranged pins.now cells nets p }
 {
     let cell = pin_word(pins, 0, p) as usize;
-    if cells <= cell {
-        return false;
-    }
     let net = pin_word(pins, 4, p) as usize;
-    if nets <= net {
-        return false;
-    }
     let direction = pin_word(pins, 3, p);
-    direction <= 1
+    cell < cells && net < nets && direction <= 1
 }
 
 // The same of every pin.
@@ -38,15 +31,7 @@ pub fn pins_ranged(pins: &[u32], size: usize, cells: usize, nets: usize) -> bool
     requires { 5 * size ≤ length pins.now }
     ensures { result ≡ every (ranged pins.now cells nets) (upto size) }
 {
-    let mut p = 0;
-    while p < size {
-        let fits = pin_ranged(pins, p, cells, nets);
-        if !fits {
-            return false;
-        }
-        p += 1;
-    }
-    true
+    (0..size).all(|p| pin_ranged(pins, p, cells, nets))
 }
 
 // A pin that the kind of its cell may have, by the constant table; no kind has a name of 17 or more.
@@ -59,7 +44,7 @@ fn pin_allowed(kinds: &[u32], pins: &[u32], p: usize) -> bool
         return false;
     }
     let cell = pin_word(pins, 0, p) as usize;
-    let kind = word(kinds, cell) as usize;
+    let kind = kinds[cell] as usize;
     let allows = kind_word(kind, name);
     let bit = pin_word(pins, 2, p);
     let direction = pin_word(pins, 3, p);
@@ -71,13 +56,5 @@ pub fn pins_allowed(kinds: &[u32], pins: &[u32], size: usize) -> bool
     requires { Ranged kinds.now pins.now size }
     ensures { result ≡ every (slotted kinds.now pins.now) (upto size) }
 {
-    let mut p = 0;
-    while p < size {
-        let fits = pin_allowed(kinds, pins, p);
-        if !fits {
-            return false;
-        }
-        p += 1;
-    }
-    true
+    (0..size).all(|p| pin_allowed(kinds, pins, p))
 }

@@ -3,9 +3,10 @@ use mathlib.Core.Path.{◌≡◌, refl, sym, ap, subst, ◌∙◌}
 use mathlib.Core.Logic.{inl, inr}
 use mathlib.Core.Bool.{Bool, true, false, ◌&&◌}
 use mathlib.Core.List.{List, [], ◌∷◌}
-use Prim.Native.Nat.{ℕ, zero, suc, ◌+◌, ◌*◌, ◌/◌, ◌<◌, ◌≤◌}
+use Prim.Native.Nat.{ℕ, suc, ◌+◌, ◌*◌, ◌/◌, ◌<◌, ◌≤◌}
 use native.Mathlib.Omega.{arith}
 use lib.ListN.{length, get_or, length-append}
+use Rattle.std.specs.Prelude.{Ok, Err}
 use borrow.Author.Tests.{le-leb, lt-leb}
 use Rattle.laws.specs.Tests.{◌≤?◌, refuse}
 use Rattle.laws.specs.Lists.{count, upto}
@@ -13,20 +14,19 @@ use Rattle.laws.specs.Words.{part, zeros, filled}
 use Rattle.laws.proofs.Tests.{and-false}
 use Rattle.laws.proofs.Words.{zeros_at, part_none, part_length, part_filled}
 use Rattle.rules.specs.declared.GraphCounts.{GraphCounts}
-use Rattle.rules.specs.declared.Staged.TheVariants.{Stages, Refused}
+use Rattle.rules.specs.declared.Refusal.{Refusal}
+use Rattle.rules.specs.declared.Refusal.TheVariants.{Levels, Index}
 use Rattle.rules.specs.Tables.{graph_in, held, row_words, all_handed, all_taken}
 use Rattle.rules.specs.Stages.{Row, stages}
 use Rattle.rules.specs.Refusals.{rising, something_read}
-use Rattle.rules.specs.Answers.{endpoints, stages_fit, stage_rows, staged_of}
+use Rattle.rules.specs.Answers.{endpoints, stages_fit, stage_rows, refusals, answer_of, stages_size}
 use Rattle.graphs.specs.Parts.{lent as words_of}
 use Rattle.members.specs.Set.{SetIn, FilledUp}
-use Rattle.picks.specs.Tables.{Open}
-use Rattle.subsets.proofs.Full.{nonzero}
 use Rattle.asked.specs.Answer.{Sound}
 use Rattle.asked.proofs.Begins.{room_set}
 use Rattle.asked.proofs.Asked.{open_zero}
-use Rattle.stages.specs.declared.Plan.{Plan}
-use Rattle.stages.specs.State.{Start, stages_in, Short, Lengths, Planned, nothing, short, laid}
+use Rattle.turns.specs.declared.Plan.{Plan}
+use Rattle.stages.specs.State.{Start, stages_in, Short, Laid, Unmade, nothing, short, Unlaid}
 use Rattle.plans.specs.Answer.{Plans, late_number, Staged1}
 
 -- a row has four words
@@ -42,9 +42,9 @@ module _ (c : GraphCounts) (ws os ds rs splits : List ℕ) (room : ℕ) (l h t w
   S = stages (graph_in c (words_of ws os ds rs)) splits
 
   refused_by : (k : ℕ) → late_number c (words_of ws os ds rs) splits room (length h) (length t) ≡ suc k → (l' h' t' : List ℕ) → l' ≡ zeros (length l) → h' ≡ zeros (length h) → t' ≡ zeros (length t)
-      → Staged1 c ws os ds rs splits room l h t l' h' t' (Refused (suc k))
+      → Staged1 c ws os ds rs splits room l h t l' h' t' (Err (get_or refusals k Index))
   refused_by k e l' h' t' el eh et = record {
-    answer = sym (ap (λ (x : ℕ). staged_of x S) e);
+    answer = sym (ap (λ (x : ℕ). answer_of x (stages_size S)) e);
     rows = el ∙ sym (ap (λ (x : ℕ). held x (stage_rows S) (length l)) e);
     handed = eh ∙ sym (ap (λ (x : ℕ). held x (all_handed S) (length h)) e);
     taken = et ∙ sym (ap (λ (x : ℕ). held x (all_taken S) (length t)) e);
@@ -54,7 +54,7 @@ module _ (c : GraphCounts) (ws os ds rs splits : List ℕ) (room : ℕ) (l h t w
   unfolding late_number
   late_13 f = rw f
 
-  pub plan_13 : (b : Bool) → b ≡ rising splits → b ≡ false → Staged1 c ws os ds rs splits room l h t l h t (Refused 13)
+  pub plan_13 : (b : Bool) → b ≡ rising splits → b ≡ false → Staged1 c ws os ds rs splits room l h t l h t (Err Levels)
   plan_13 b e f = refused_by 12 (late_13 (sym e ∙ f)) l h t P.rows_zero P.handed_zero P.taken_zero
 
   module _ (b : Bool) (eb : b ≡ rising splits) (tb : b ≡ true) (ends : ℕ) (ee : ends ≡ endpoints c) where
@@ -102,7 +102,7 @@ module _ (c : GraphCounts) (ws os ds rs splits : List ℕ) (room : ℕ) (l h t w
         few = P.few;
       }
 
-      module _ (w₂ l₂ h₂ t₂ : List ℕ) (p : Plan) (q : Planned c ws os ds rs splits w₁ l h t w₂ l₂ h₂ t₂ p) where
+      module _ (w₂ l₂ h₂ t₂ : List ℕ) where
         late_is : something_read (graph_in c (words_of ws os ds rs)) (upto (endpoints c)) ≡ true → late_number c (words_of ws os ds rs) splits room (length h) (length t) ≡ refuse 11 (stages_fit S room (length h) (length t))
         unfolding late_number
         late_is y = rw (sym eb ∙ tb, y)
@@ -120,68 +120,58 @@ module _ (c : GraphCounts) (ws os ds rs splits : List ℕ) (room : ℕ) (l h t w
         small (inr (inl a)) = rw (lt-leb (length (all_handed S)) (length h) a, and-false (length S ≤? room))
         small (inr (inr a)) = rw (lt-leb (length (all_taken S)) (length t) a) (and-false ((length S ≤? room) && (length (all_handed S) ≤? length h)))
 
-        late_number_lem : Planned c ws os ds rs splits w₁ l h t w₂ l₂ h₂ t₂ p → (p.number ≡ 0 → ⊥) → late_number c (words_of ws os ds rs) splits room (length h) (length t) ≡ p.number
-        late_number_lem (nothing n k e) z = late_14 n ∙ sym e
-        late_number_lem (short y a k e) z = late_is y ∙ ap (refuse 11) (small (subst (λ (x : List Row). Short x l h t) in_is a)) ∙ sym e
-        late_number_lem (laid y a b' d x y' z' k e) z = absurd (z e)
+        pub plan_refused : (e : Refusal) → Unlaid c ws os ds rs splits w₁ l h t w₂ l₂ h₂ t₂ e → (l₃ h₃ t₃ : List ℕ) → l₃ ≡ zeros (length l₂) → h₃ ≡ zeros (length h₂) → t₃ ≡ zeros (length t₂)
+            → Staged1 c ws os ds rs splits room l h t l₃ h₃ t₃ (Err e)
+        plan_refused e u l₃ h₃ t₃ el eh et = by_reason u.why
+          where
+            by_number : (k : ℕ) → late_number c (words_of ws os ds rs) splits room (length h) (length t) ≡ suc k → e ≡ get_or refusals k Index
+                → Staged1 c ws os ds rs splits room l h t l₃ h₃ t₃ (Err e)
+            by_number k n v = subst (λ (x : Refusal). Staged1 c ws os ds rs splits room l h t l₃ h₃ t₃ (Err x)) (sym v)
+                (refused_by k n l₃ h₃ t₃ (el ∙ ap zeros u.lengths.rows) (eh ∙ ap zeros u.lengths.handed) (et ∙ ap zeros u.lengths.taken))
 
-        kept : Planned c ws os ds rs splits w₁ l h t w₂ l₂ h₂ t₂ p → Lengths w₁ l h t w₂ l₂ h₂ t₂
-        kept (nothing n k e) = k
-        kept (short y a k e) = k
-        kept (laid y a b' d x y' z' k e) = k
+            by_reason : Unmade c ws os ds rs splits l h t e → Staged1 c ws os ds rs splits room l h t l₃ h₃ t₃ (Err e)
+            by_reason (nothing n v) = by_number 13 (late_14 n) v
+            by_reason (short y a v) = by_number 10 (late_is y ∙ ap (refuse 11) (small (subst (λ (x : List Row). Short x l h t) in_is a))) v
 
-        pub plan_refused : (p.number ≡ 0 → ⊥) → (l₃ h₃ t₃ : List ℕ) → l₃ ≡ zeros (length l₂) → h₃ ≡ zeros (length h₂) → t₃ ≡ zeros (length t₂)
-            → Staged1 c ws os ds rs splits room l h t l₃ h₃ t₃ (Refused p.number)
-        plan_refused n l₃ h₃ t₃ el eh et = nonzero p.number n (λ k e. subst (λ (x : ℕ). Staged1 c ws os ds rs splits room l h t l₃ h₃ t₃ (Refused x)) (sym e)
-            (refused_by k (late_number_lem q n ∙ e) l₃ h₃ t₃ (el ∙ ap zeros (kept q).rows) (eh ∙ ap zeros (kept q).handed) (et ∙ ap zeros (kept q).taken)))
+        module _ (p : Plan) (q : Laid c ws os ds rs splits w₁ l h t w₂ l₂ h₂ t₂ p) where
+          rows_are : part l₂ 0 p.rows ≡ stage_rows S
+          rows_are = q.rows ∙ ap stage_rows in_is
 
-        module _ (z : p.number ≡ 0) where
-          Good : Type 0
-          Good = (something_read (graph_in c (words_of ws os ds rs)) (upto (endpoints c)) ≡ true) × (Open l₂ p.rows) × (Open h₂ p.handed) × (Open t₂ p.taken)
-              × (part l₂ 0 p.rows ≡ stage_rows S) × (part h₂ 0 p.handed ≡ all_handed S) × (part t₂ 0 p.taken ≡ all_taken S)
+          handed_are : part h₂ 0 p.handed ≡ all_handed S
+          handed_are = q.handed ∙ ap all_handed in_is
 
-          good : Planned c ws os ds rs splits w₁ l h t w₂ l₂ h₂ t₂ p → Good
-          unfolding stages_in Good
-          good (nothing n k e) = absurd (omega (arith, sym z ∙ e))
-          good (short y a k e) = absurd (omega (arith, sym z ∙ e))
-          good (laid y a b' d x y' z' k e) = (y, a, b', d, x, y', z')
+          taken_are : part t₂ 0 p.taken ≡ all_taken S
+          taken_are = q.taken ∙ ap all_taken in_is
 
           row_count : p.rows ≡ 4 * length S
-          unfolding Good
-          row_count = sym (part_length l₂ 0 p.rows (omega (arith, (good q).1.inside))) ∙ ap length (good q).4 ∙ rows_length S
+          row_count = sym (part_length l₂ 0 p.rows (omega (arith, q.rows_open.inside))) ∙ ap length rows_are ∙ rows_length S
 
           handed_count : p.handed ≡ length (all_handed S)
-          unfolding Good
-          handed_count = sym (part_length h₂ 0 p.handed (omega (arith, (good q).2.inside))) ∙ ap length (good q).5
+          handed_count = sym (part_length h₂ 0 p.handed (omega (arith, q.handed_open.inside))) ∙ ap length handed_are
 
           taken_count : p.taken ≡ length (all_taken S)
-          unfolding Good
-          taken_count = sym (part_length t₂ 0 p.taken (omega (arith, (good q).3.inside))) ∙ ap length (good q).6
+          taken_count = sym (part_length t₂ 0 p.taken (omega (arith, q.taken_open.inside))) ∙ ap length taken_are
 
           pub plan_rows : p.rows ≤ 260
-          unfolding Good
-          plan_rows = omega (arith, (good q).1.inside, (kept q).rows, P.rows_long, P.room_few)
+          plan_rows = omega (arith, q.rows_open.inside, q.lengths.rows, P.rows_long, P.room_few)
 
           pub plan_handed : p.handed ≤ 16777215
-          unfolding Good
-          plan_handed = omega (arith, (good q).2.inside, (kept q).handed, P.handed_few)
+          plan_handed = omega (arith, q.handed_open.inside, q.lengths.handed, P.handed_few)
 
           pub plan_taken : p.taken ≤ 16777215
-          unfolding Good
-          plan_taken = omega (arith, (good q).3.inside, (kept q).taken, P.taken_few)
+          plan_taken = omega (arith, q.taken_open.inside, q.lengths.taken, P.taken_few)
 
-          pub plan_made : Staged1 c ws os ds rs splits room l h t l₂ h₂ t₂ (Stages (p.rows / 4) p.handed p.taken)
-          unfolding Good
+          pub plan_made : Staged1 c ws os ds rs splits room l h t l₂ h₂ t₂ (Ok (record { stages = p.rows / 4; handed = p.handed; taken = p.taken }))
           plan_made =
-              let lr : length S ≤ room = omega (arith, row_count, (good q).1.inside, (kept q).rows, P.rows_long) in
-              let lh : length (all_handed S) ≤ length h = omega (arith, handed_count, (good q).2.inside, (kept q).handed) in
-              let lt : length (all_taken S) ≤ length t = omega (arith, taken_count, (good q).3.inside, (kept q).taken) in
+              let lr : length S ≤ room = omega (arith, row_count, q.rows_open.inside, q.lengths.rows, P.rows_long) in
+              let lh : length (all_handed S) ≤ length h = omega (arith, handed_count, q.handed_open.inside, q.lengths.handed) in
+              let lt : length (all_taken S) ≤ length t = omega (arith, taken_count, q.taken_open.inside, q.lengths.taken) in
               let e : late_number c (words_of ws os ds rs) splits room (length h) (length t) ≡ 0
-              = late_is (good q).0 ∙ rw (le-leb (length S) room lr, le-leb (length (all_handed S)) (length h) lh, le-leb (length (all_taken S)) (length t) lt) in
+              = late_is q.read ∙ rw (le-leb (length S) room lr, le-leb (length (all_handed S)) (length h) lh, le-leb (length (all_taken S)) (length t) lt) in
               let nr : p.rows / 4 ≡ length S = ap (λ (x : ℕ). x / 4) row_count ∙ quarter (length S) in
               record {
-                answer = (λ i. Stages (nr i) (handed_count i) (taken_count i)) ∙ sym (ap (λ (x : ℕ). staged_of x S) e);
-                rows = part_filled l₂ p.rows (good q).1.inside (good q).1.zero ∙ (λ i. filled ((good q).4 i) ((kept q).rows i)) ∙ sym (ap (λ (x : ℕ). held x (stage_rows S) (length l)) e);
-                handed = part_filled h₂ p.handed (good q).2.inside (good q).2.zero ∙ (λ i. filled ((good q).5 i) ((kept q).handed i)) ∙ sym (ap (λ (x : ℕ). held x (all_handed S) (length h)) e);
-                taken = part_filled t₂ p.taken (good q).3.inside (good q).3.zero ∙ (λ i. filled ((good q).6 i) ((kept q).taken i)) ∙ sym (ap (λ (x : ℕ). held x (all_taken S) (length t)) e);
+                answer = (λ i. Ok (record { stages = nr i; handed = handed_count i; taken = taken_count i })) ∙ sym (ap (λ (x : ℕ). answer_of x (stages_size S)) e);
+                rows = part_filled l₂ p.rows q.rows_open.inside q.rows_open.zero ∙ (λ i. filled (rows_are i) (q.lengths.rows i)) ∙ sym (ap (λ (x : ℕ). held x (stage_rows S) (length l)) e);
+                handed = part_filled h₂ p.handed q.handed_open.inside q.handed_open.zero ∙ (λ i. filled (handed_are i) (q.lengths.handed i)) ∙ sym (ap (λ (x : ℕ). held x (all_handed S) (length h)) e);
+                taken = part_filled t₂ p.taken q.taken_open.inside q.taken_open.zero ∙ (λ i. filled (taken_are i) (q.lengths.taken i)) ∙ sym (ap (λ (x : ℕ). held x (all_taken S) (length t)) e);
               }

@@ -6,7 +6,7 @@ ghost use Rattle.rules.specs.Refusals.{rising};
 ghost use Rattle.plans.specs.Answer.{levels_fit, Plans, Staged1};
 
 use members::fill_up;
-use rules::{GraphCounts, Staged};
+use rules::{GraphCounts, Refusal, StagesSize};
 use stages::run;
 use subsets::num_endpoint_groups;
 use walk::given::all_below;
@@ -35,14 +35,12 @@ pub fn levels_fit(splits: &[u32], rows: u32, handed: usize, taken: usize) -> boo
 fn levels_rise(splits: &[u32]) -> bool
     ensures { result ≡ rising splits.now }
 {
-    let mut i = 1;
-    while i < splits.len() {
+    for i in 1..splits.len() {
         let a = word(splits, i - 1);
         let b = word(splits, i);
         if b <= a {
             return false;
         }
-        i += 1;
     }
     true
 }
@@ -60,27 +58,29 @@ pub fn plan_checked(
     handed: &mut [u32],
     taken: &mut [u32],
     work: &mut [u32],
-) -> Staged
+) -> Result<StagesSize, Refusal>
     requires { Plans c drivers.now outputs.now dffs.now rams.now splits.now room rows.old handed.old taken.old work.old }
     ensures { Staged1 c drivers.now outputs.now dffs.now rams.now splits.now room rows.old handed.old taken.old rows.new handed.new taken.new result }
 {
     if !levels_rise(splits) {
-        return Staged::Refused(13);
+        return Err(Refusal::Levels);
     }
     let m = (c.pins as usize) + 1;
     let ends = num_endpoint_groups(c);
     fill_up(work, 8 * m, ends);
-    let p = run(
+    match run(
         c, drivers, outputs, dffs, rams, splits, work, rows, handed, taken,
-    );
-    if p.number != 0 {
-        zero(rows);
-        zero(handed);
-        zero(taken);
-        return Staged::Refused(p.number);
+    ) {
+        Ok(p) => Ok(StagesSize {
+            stages: (p.rows / 4) as u32,
+            handed: p.handed as u32,
+            taken: p.taken as u32,
+        }),
+        Err(e) => {
+            zero(rows);
+            zero(handed);
+            zero(taken);
+            Err(e)
+        }
     }
-    let count = (p.rows / 4) as u32;
-    let hands = p.handed as u32;
-    let takes = p.taken as u32;
-    Staged::Stages(count, hands, takes)
 }

@@ -2,35 +2,24 @@
 // else in them.
 #![tactic(auto)]
 
-ghost use Rattle.std.specs.Prelude.{◌≡◌};
-ghost use Rattle.roles.specs.Reading.{tables};
+ghost use Rattle.rules.specs.Tables.{netlist_in};
 ghost use Rattle.checks.specs.Ready.{Asked};
 ghost use Rattle.prepares.specs.Prepared.{Prepared};
 
 use checks::{checked_netlist, markers_right};
+use rules::{NetlistTables, Refusal};
 use words::fill;
 
-// The number of 3 to 10, of tables that 1 and 2 let pass.
-pub fn prepare(
-    kinds: &[u32],
-    starts: &[u32],
-    list: &[u32],
-    pins: &[u32],
-    nets: &[u32],
-    work: &mut [u32],
-) -> u32
-    requires { Asked kinds.now starts.now list.now pins.now work.old }
-    ensures { Prepared (tables kinds.now starts.now list.now pins.now nets.now) work.old work.new result }
+// The tests 3 to 10, of tables that 1 and 2 let pass.
+pub fn prepare(n: NetlistTables, work: &mut [u32]) -> Result<(), Refusal>
+    requires { Asked n.kinds.now n.starts.now n.list.now n.pins.now work.old }
+    ensures { Prepared (netlist_in n.entry) work.old work.new result }
 {
-    let number = checked_netlist(kinds, starts, list, pins, nets, work);
-    if number != 0 {
-        return number;
+    checked_netlist(n, work)?;
+    if !markers_right(n, work) {
+        return Err(Refusal::Marker);
     }
-    let free = markers_right(kinds, starts, list, pins, nets, work);
-    if !free {
-        return 10;
-    }
-    let used = 2 * list.len();
+    let used = 2 * n.list.len();
     fill(work, 0, used, 0);
-    0
+    Ok(())
 }

@@ -6,7 +6,6 @@ ghost use Rattle.marks.specs.Marking.{Clear};
 ghost use Rattle.repeats.specs.Alike.{code_of, Stamped, Sorted, Looked};
 
 use pins::pin_word;
-use words::word;
 
 // A pin's name and bit as one number.
 fn pin_code(pins: &[u32], p: usize) -> usize
@@ -39,17 +38,13 @@ pub fn none_twice(list: &[u32], pins: &[u32], work: &mut [u32], base: usize) -> 
     requires clear { Clear work.old base 544 }
     ensures { Looked list.now pins.now result }
 {
-    let mut j = 0;
-    while j < list.len() {
-        let p = word(list, j) as usize;
+    for &entry in list {
+        let p = entry as usize;
         let code = pin_code(pins, p);
         let cell = pin_word(pins, 0, p);
-        let at = base + code;
-        let new = stamp(work, at, cell);
-        if !new {
+        if !stamp(work, base + code, cell) {
             return false;
         }
-        j += 1;
     }
     true
 }

@@ -1,7 +1,7 @@
 -- The words of a RAM's row, in the code's shape.
 use mathlib.Core.Path.{◌≡◌, refl, sym, ap, ap₂, subst, ◌∙◌}
 use mathlib.Core.Bool.{Bool, true, false}
-use mathlib.Core.List.{List, [], ◌∷◌}
+use mathlib.Core.List.{List, ◌∷◌}
 use Prim.Native.Nat.{ℕ, ◌+◌, ◌-◌, ◌*◌, ◌/◌, ◌<◌, ◌≤◌}
 use native.Mathlib.Numerals.{add-one}
 use native.Mathlib.Omega.{arith}
@@ -9,22 +9,20 @@ use lib.ListN.{length, get_or, take, drop, set}
 use lib.Seq.{drop-cons, drop-length}
 use borrow.Author.Tests.{eq-eqb, ne_eqb, lt-ltb, ltb-true}
 use Rattle.laws.proofs.Tests.{by_test}
-use Rattle.std.specs.Prelude.{◌==◌}
+use Rattle.std.specs.Prelude.{Option, Some, None, ◌==◌}
 use Rattle.laws.specs.Tests.{◌<?◌}
-use Rattle.laws.specs.Lists.{count, keep, first_or}
+use Rattle.laws.specs.Lists.{count, keep}
 use Rattle.laws.specs.Words.{part}
-use Rattle.laws.proofs.Bags.{here}
 use Rattle.laws.proofs.Words.{part_length, part_at}
 use Rattle.rules.specs.Netlist.{Netlist, named_bit, #R_ADDR, #R_DATA, #W_ADDR, #W_DATA, #W_EN}
-use Rattle.rules.proofs.Tables.{clash, in_keep}
+use Rattle.rules.proofs.Tables.{in_keep}
 use Rattle.words.proofs.Tables.{Writing, writing_goes_on}
-use Rattle.roles.specs.declared.Entry.{Entry}
-use Rattle.roles.specs.declared.Entry.TheVariants.{Pin, Absent}
-use Rattle.roles.specs.Reading.{tables, Held, entry_of}
+use Rattle.roles.specs.Reading.{Held, entry_of}
 use Rattle.roles.proofs.Entries.{cell_held, entry_first, entry_none}
 use Rattle.roles.proofs.Fitting.{laid}
 use Rattle.activity.specs.Traced.{lits}
 use Rattle.flops.specs.Flopped.{Known}
+use Rattle.flops.proofs.Flopping.{first_entry, no_entry}
 use Rattle.rows.specs.Words.{has_bit, bit_lit, plain_word}
 
 -- ---- one pin
@@ -54,7 +52,7 @@ module _ (list pins : List ℕ) (name bit from n i : ℕ) (h : Held list pins fr
   unfolding part
   whole_length = part_length list from n h.fits
 
-  pub scanning_ends : n ≤ i → Absent ≡ entry_of (keep (has_bit pins name bit) (take n (drop from list))) 0
+  pub scanning_ends : n ≤ i → None ≡ entry_of (keep (has_bit pins name bit) (take n (drop from list))) 0
   scanning_ends l =
       let e : i ≡ length whole = omega (arith, s.inside, l, whole_length) in
       sym (entry_none 0) ∙ ap (λ (x : List ℕ). entry_of (keep f x) 0) (sym (drop-length whole) ∙ ap (λ (j : ℕ). drop j whole) (sym e)) ∙ s.rest
@@ -74,7 +72,7 @@ module _ (list pins : List ℕ) (name bit from n i : ℕ) (h : Held list pins fr
     entry_held = h.entries i l
 
     module _ (hit : Bool) (e : hit ≡ has_bit pins name bit (get_or list (from + i) 0)) where
-      pub scanning_found : hit ≡ true → Pin (get_or list (from + i) 0) ≡ entry_of (keep (has_bit pins name bit) (take n (drop from list))) 0
+      pub scanning_found : hit ≡ true → Some (get_or list (from + i) 0) ≡ entry_of (keep (has_bit pins name bit) (take n (drop from list))) 0
       scanning_found t = sym (entry_first this (keep f (drop (i + 1) whole))) ∙ ap (λ (x : List ℕ). entry_of x 0) (kept (sym e ∙ t)) ∙ unfolded
         where
           kept : f this ≡ true → this ∷ keep f (drop (i + 1) whole) ≡ keep f (this ∷ drop (i + 1) whole)
@@ -87,50 +85,37 @@ module _ (list pins : List ℕ) (name bit from n i : ℕ) (h : Held list pins fr
           passed q = rw q
 
 -- ---- the literal of a cell's pin
-first_pin_lem : (l : List ℕ) (p : ℕ) → entry_of l 0 ≡ Pin p → (g : ℕ → ℕ) → (0 < count p l) × (g p ≡ first_or 0 g l)
-unfolding entry_of
-first_pin_lem [] p e g = clash (cc)
-first_pin_lem (x ∷ l) p e g = let q : p ≡ x = cc in (subst (λ (y : ℕ). 0 < count y (x ∷ l)) (sym q) (here x l), ap g q)
-
-no_pin : (l : List ℕ) → entry_of l 0 ≡ Absent → (g : ℕ → ℕ) → 0 ≡ first_or 0 g l
-unfolding entry_of
-no_pin [] e g = refl
-no_pin (x ∷ l) e g = clash (cc)
-
-module _ (kinds starts list pins nets w : List ℕ) (c from end : ℕ) (k : Known (tables kinds starts list pins nets) w) (l : c < length kinds)
-    (ef : from ≡ get_or starts c 0) (ee : end ≡ get_or starts (c + 1) 0) where
-  abbrev n : Netlist
-  n = tables kinds starts list pins nets
-
-  long : c + 1 < length starts
+module _ (n : Netlist) (w : List ℕ) (c from end : ℕ) (k : Known n w) (l : c < length n.kinds)
+    (ef : from ≡ get_or n.starts c 0) (ee : end ≡ get_or n.starts (c + 1) 0) where
+  long : c + 1 < length n.starts
   long = omega (arith, l, k.fits.starts_long)
 
   pub from_below : from ≤ end
-  from_below = omega (arith, ef, ee, (laid kinds starts list pins nets k.fits).rise c long)
+  from_below = omega (arith, ef, ee, (laid n.kinds n.starts n.list n.pins n.nets k.fits).rise c long)
 
-  pub list_held : Held list pins from (end - from)
-  list_held = subst (λ (x : ℕ). Held list pins x (end - x)) (sym ef) (subst (λ (y : ℕ). Held list pins (get_or starts c 0) (y - get_or starts c 0)) (sym ee)
-      (cell_held starts list pins c (laid kinds starts list pins nets k.fits) long))
+  pub list_held : Held n.list n.pins from (end - from)
+  list_held = subst (λ (x : ℕ). Held n.list n.pins x (end - x)) (sym ef) (subst (λ (y : ℕ). Held n.list n.pins (get_or n.starts c 0) (y - get_or n.starts c 0)) (sym ee)
+      (cell_held n.starts n.list n.pins c (laid n.kinds n.starts n.list n.pins n.nets k.fits) long))
 
-  module _ (name bit : ℕ) (found : Entry) (h : found ≡ entry_of (keep (has_bit pins name bit) (take (end - from) (drop from list))) 0) where
+  module _ (name bit : ℕ) (found : Option ℕ) (h : found ≡ entry_of (keep (has_bit n.pins name bit) (take (end - from) (drop from n.list))) 0) where
     by_bit : found ≡ entry_of (named_bit n c name bit) 0
-    by_bit = h ∙ ap₂ (λ (x y : ℕ). entry_of (keep (has_bit pins name bit) (take (y - x) (drop x list))) 0) ef ee
+    by_bit = h ∙ ap₂ (λ (x y : ℕ). entry_of (keep (has_bit n.pins name bit) (take (y - x) (drop x n.list))) 0) ef ee
 
-    module _ (p : ℕ) (e : found ≡ Pin p) where
+    module _ (p : ℕ) (e : found ≡ Some p) where
       both : (0 < count p (named_bit n c name bit)) × (lits n p ≡ bit_lit n c name bit)
-      both = first_pin_lem (named_bit n c name bit) p (sym by_bit ∙ e) (lits n)
+      both = first_entry (named_bit n c name bit) p (sym by_bit ∙ e) 0 (lits n)
 
-      inside : p < length list
-      inside = in_keep n k.accepted.tables (has_bit pins name bit) c p l both.0
+      inside : p < length n.list
+      inside = in_keep n k.accepted.tables (has_bit n.pins name bit) c p l both.0
 
-      pub bit_place : 7 * length list + p < length w
+      pub bit_place : 7 * length n.list + p < length w
       bit_place = omega (arith, inside, k.wide)
 
-      pub bit-told : (r : ℕ) → r ≡ get_or w (7 * length list + p) 0 → r ≡ bit_lit (tables kinds starts list pins nets) c name bit
+      pub bit-told : (r : ℕ) → r ≡ get_or w (7 * length n.list + p) 0 → r ≡ bit_lit n c name bit
       bit-told r er = er ∙ k.written.lits p inside ∙ both.1
 
-    pub bit-none : found ≡ Absent → 0 ≡ bit_lit (tables kinds starts list pins nets) c name bit
-    bit-none e = no_pin (named_bit n c name bit) (sym by_bit ∙ e) (lits n)
+    pub bit-none : found ≡ None → 0 ≡ bit_lit n c name bit
+    bit-none e = no_entry (named_bit n c name bit) (sym by_bit ∙ e) 0 (lits n)
 
 -- ---- a word of the row
 module _ (m : Netlist) (c j : ℕ) where

@@ -10,29 +10,29 @@ ghost use Rattle.picks.specs.Tables.{Open, Pushing};
 ghost use Rattle.settles.specs.State.{Settled};
 
 use clears::{add_stops, clear, leave};
-use picks::Took;
 
-// A row of a stage: its ends, how many pins it hands on and how many endpoints it takes.
-pub fn push_row(rows: &mut [u32], n: usize, lower: u32, upper: u32, handed: u32, taken: u32) -> Took
+// A row of a stage: its ends, how many pins it hands on and how many endpoints it takes. How many words are used then, or None
+// where the row does not fit.
+pub fn push_row(
+    rows: &mut [u32],
+    n: usize,
+    lower: u32,
+    upper: u32,
+    handed: u32,
+    taken: u32,
+) -> Option<usize>
     requires { Open rows.old n }
-    ensures { Pushing rows.old n (lower ∷ upper ∷ handed ∷ taken ∷ []) rows.new result.count result.fits }
+    ensures { Pushing rows.old n (lower ∷ upper ∷ handed ∷ taken ∷ []) rows.new result }
 {
     let room = rows.len() - n;
     if room < 4 {
-        return Took {
-            count: n,
-            fits: false,
-        };
+        return None;
     }
     rows[n] = lower;
     rows[n + 1] = upper;
     rows[n + 2] = handed;
     rows[n + 3] = taken;
-    let more = n + 4;
-    Took {
-        count: more,
-        fits: true,
-    }
+    Some(n + 4)
 }
 
 // What a split used is 0 again, what it handed on stops later walks, and what it took has left; how many are left.

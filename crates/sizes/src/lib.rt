@@ -3,10 +3,11 @@
 
 ghost use Rattle.std.specs.Prelude.{◌≡◌};
 ghost use Rattle.rules.specs.Bounds.{rooms_within};
+ghost use Rattle.rules.specs.Answers.{done_of};
 ghost use Rattle.sizes.specs.Lengths.{records_long, results_long, sizes_number};
 
 use netlist::{netlist_long, netlist_within};
-use rules::{NetlistCounts, Rooms};
+use rules::{NetlistCounts, Refusal, Rooms};
 
 // How long the tables are that a caller lends to building.
 #[derive(Clone, Copy)]
@@ -30,80 +31,49 @@ pub struct Sizes {
 fn rooms_within(rooms: Rooms) -> bool
     ensures { result ≡ rooms_within rooms }
 {
-    if 16777215 < rooms.pins {
-        return false;
-    }
-    if 1048576 < rooms.outputs {
-        return false;
-    }
-    if 1048576 < rooms.dffs {
-        return false;
-    }
-    if 1048576 < rooms.rams {
-        return false;
-    }
-    rooms.fanouts <= 33554430
+    rooms.pins <= 16777215
+        && rooms.outputs <= 1048576
+        && rooms.dffs <= 1048576
+        && rooms.rams <= 1048576
+        && rooms.fanouts <= 33554430
 }
 
 // 2 of the graph's tables: three words a pin and a flip-flop record, 123 a RAM.
+#[tactic(auto, unfolding(crate::specs::Lengths::records_long))]
 fn records_long(rooms: Rooms, s: Sizes) -> bool
     ensures { result ≡ records_long rooms s }
 {
     let pins = rooms.pins as usize;
-    if s.drivers != 3 * (pins + 1) {
-        return false;
-    }
-    if s.outputs != rooms.outputs as usize {
-        return false;
-    }
-    if s.dffs != 3 * (rooms.dffs as usize) {
-        return false;
-    }
-    s.rams == 123 * (rooms.rams as usize)
+    s.drivers == 3 * (pins + 1)
+        && s.outputs == rooms.outputs as usize
+        && s.dffs == 3 * rooms.dffs as usize
+        && s.rams == 123 * rooms.rams as usize
 }
 
 // 2 of the other tables and the work words.
+#[tactic(auto, unfolding(crate::specs::Lengths::results_long))]
 fn results_long(c: NetlistCounts, rooms: Rooms, s: Sizes) -> bool
     ensures { result ≡ results_long c rooms s }
 {
     let size = c.pins as usize;
     let pins = rooms.pins as usize;
-    if s.literals != size {
-        return false;
-    }
-    if s.fanout_starts != pins + 2 {
-        return false;
-    }
-    if s.fanouts != rooms.fanouts as usize {
-        return false;
-    }
-    let work = 8 * size + 8 * pins + 1024;
-    work <= s.work
+    s.literals == size
+        && s.fanout_starts == pins + 2
+        && s.fanouts == rooms.fanouts as usize
+        && 8 * size + 8 * pins + 1024 <= s.work
 }
 
 // 1, then 2.
-pub fn sizes_number(c: NetlistCounts, rooms: Rooms, s: Sizes) -> u32
-    ensures { result ≡ sizes_number c rooms s }
+#[tactic(auto, unfolding(crate::specs::Lengths::sizes_number))]
+pub fn test_sizes(c: NetlistCounts, rooms: Rooms, s: Sizes) -> Result<(), Refusal>
+    ensures { result ≡ done_of (sizes_number c rooms s) }
 {
-    let counts = netlist_within(c);
-    if !counts {
-        return 1;
-    }
-    let within = rooms_within(rooms);
-    if !within {
-        return 1;
+    if !netlist_within(c) || !rooms_within(rooms) {
+        return Err(Refusal::Bounds);
     }
     let lent = netlist_long(c, s.kinds, s.starts, s.list, s.pins, s.nets);
-    if !lent {
-        return 2;
+    if !lent || !records_long(rooms, s) || !results_long(c, rooms, s) {
+        return Err(Refusal::Lengths);
     }
-    let records = records_long(rooms, s);
-    if !records {
-        return 2;
-    }
-    let results = results_long(c, rooms, s);
-    if !results {
-        return 2;
-    }
-    0
+    Ok(())
 }

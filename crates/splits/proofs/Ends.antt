@@ -1,26 +1,26 @@
 -- How a split ends: its stage stands in the tables, or one of them has too little room.
 use mathlib.Core.Path.{◌≡◌, refl, sym, ap, subst, ◌∙◌}
 use mathlib.Core.Logic.{inl, inr}
-use mathlib.Core.Bool.{Bool, true, false}
+use mathlib.Core.Bool.{Bool}
 use mathlib.Core.List.{List}
 use Prim.Native.Nat.{ℕ, ◌+◌, ◌-◌, ◌*◌, ◌<◌, ◌≤◌}
 use native.Mathlib.Omega.{arith}
 use lib.ListN.{length, get_or}
 use Rattle.laws.specs.Lists.{count}
 use Rattle.laws.specs.Words.{part}
-use Rattle.laws.proofs.Tests.{true≢false}
 use Rattle.laws.proofs.Bags.{keep_le}
 use Rattle.laws.proofs.Indices.{at_in}
 use Rattle.laws.proofs.Words.{part_in, part_at, part_length}
 use Rattle.rules.specs.declared.GraphCounts.{GraphCounts}
+use Rattle.rules.specs.declared.Refusal.TheVariants.{NothingRead, Room}
 use Rattle.rules.specs.Stages.{Stage}
 use Rattle.rules.specs.Answers.{endpoints}
 use Rattle.members.specs.Set.{SetIn}
 use Rattle.levels.specs.State.{stops_of, Lefts}
 use Rattle.joins.specs.State.{Takens}
-use Rattle.picks.specs.Tables.{picks, take_test, free_test, Pushed, Pushing, pushed, full}
+use Rattle.picks.specs.Tables.{picks, take_test, free_test, Full, Pushed}
 use Rattle.splits.specs.declared.Spot.{Spot}
-use Rattle.splits.specs.State.{split_in, order_in, Idle, Prepared, WorkedOut, CutOff, made, narrow}
+use Rattle.splits.specs.State.{split_in, order_in, Idle, Prepared, WorkedOut, Cut, Uncut, nothing, narrow}
 use Rattle.splits.proofs.Cuts.{taken_is, handed_is, cut_used, cut_stays}
 
 picks_le : (f : ℕ → Bool) (x : ℕ) (l : List ℕ) → count x (picks f l) ≤ count x l
@@ -44,29 +44,26 @@ module _ (c : GraphCounts) (ws os ds rs : List ℕ) (at : Spot) (w h t : List �
   listed : k ≡ length (order_in c ws os ds rs at.m (part w (8 * at.m) at.left) (stops_of w at.m))
   listed = sym (part_length w₁ (3 * m) k (omega (arith, p₁.going.listing.long, p₁.going.listing.count))) ∙ ap length p₁.list
 
-  module _ (t' : List ℕ) (n' : ℕ) (ok : Bool)
-      (q : Pushing t at.taken (picks (take_test c os ds rs at.m w₁ at.d) (part w₁ (8 * at.m) at.left)) t' n' ok) where
+  -- nothing is read
+  pub cut_nothing : k ≡ 0 → Uncut c ws os ds rs at w h t w₁ h t NothingRead
+  cut_nothing z = record { why = nothing (sym listed ∙ z) refl; work_long = p₁.long; handed_long = refl; taken_long = refl }
+
+  module _ (nz : k ≡ 0 → ⊥) (t' : List ℕ) where
     abbrev es : List ℕ
     es = picks (take_test c os ds rs at.m w₁ at.d) (part w₁ (8 * at.m) at.left)
 
     es_is : picks (take_test c os ds rs at.m w₁ at.d) (part w₁ (8 * at.m) at.left) ≡ S.taken
     es_is = taken_is c ws os ds rs at.m at.d w at.left idle w₁ k p₁
 
-    small : Pushing t at.taken es t' n' ok → ok ≡ false → (length t < at.taken + length S.taken) × (length t' ≡ length t)
-    small (pushed p e) f = true≢false ok e f
-    small (full a b e) f = (subst (λ (x : List ℕ). length t < at.taken + length x) es_is a, b)
+    pub cut_narrow : Full t at.taken (picks (take_test c os ds rs at.m w₁ at.d) (part w₁ (8 * at.m) at.left)) t' → Uncut c ws os ds rs at w h t w₁ h t' Room
+    cut_narrow f = record {
+      why = narrow (omega (arith, nz, listed)) (inr (subst (λ (x : List ℕ). length t < at.taken + length x) es_is f.small)) refl;
+      work_long = p₁.long;
+      handed_long = refl;
+      taken_long = f.long;
+    }
 
-    pub cut_narrow : ok ≡ false → CutOff c ws os ds rs at w h t w₁ h t' (record { listed = k; size = 0; handed = at.handed; taken = n'; fits = false })
-    cut_narrow f = let s = small q f in narrow (inr s.0) p₁.long refl s.1 listed refl
-
-    module _ (v : ok ≡ true) where
-      fits : Pushed t at.taken es t' n'
-      fits = go q
-        where
-          go : Pushing t at.taken es t' n' ok → Pushed t at.taken es t' n'
-          go (pushed p e) = p
-          go (full a b e) = true≢false ok v e
-
+    module _ (n' : ℕ) (fits : Pushed t at.taken (picks (take_test c os ds rs at.m w₁ at.d) (part w₁ (8 * at.m) at.left)) t' n') where
       pub cut_count : at.taken ≤ n'
       cut_count = omega (arith, fits.count)
 
@@ -94,9 +91,21 @@ module _ (c : GraphCounts) (ws os ds rs : List ℕ) (at : Spot) (w h t : List �
         hs_is : picks (free_test at.m w₂) (part w₂ (6 * at.m) size) ≡ S.handed
         hs_is = handed_is c ws os ds rs at.m at.d w at.left idle w₁ k p₁ (part t' at.taken (n' - at.taken)) (part_is ∙ es_is) w₂ size wk
 
-        pub cut_done : (h' : List ℕ) (n₂ : ℕ) (ok₂ : Bool) → Pushing h at.handed (picks (free_test at.m w₂) (part w₂ (6 * at.m) size)) h' n₂ ok₂
-            → CutOff c ws os ds rs at w h t w₂ h' t' (record { listed = k; size = size; handed = n₂; taken = n'; fits = ok₂ })
-        cut_done h' n₂ ok₂ (pushed p e) = made (subst (λ (x : List ℕ). Pushed h at.handed x h' n₂) hs_is p) (subst (λ (x : List ℕ). Pushed t at.taken x t' n') es_is fits)
-            (cut_used c ws os ds rs at.m at.d w at.left idle w₁ k p₁ (part t' at.taken (n' - at.taken)) (part_is ∙ es_is) w₂ size wk)
-            (cut_stays c ws os ds rs at.m at.d w at.left idle w₁ k p₁ (part t' at.taken (n' - at.taken)) (part_is ∙ es_is) w₂ size wk) listed e
-        cut_done h' n₂ ok₂ (full a b e) = narrow (inl (subst (λ (x : List ℕ). length h < at.handed + length x) hs_is a)) (wk.kept.long ∙ p₁.long) b fits.long listed e
+        pub cut_done : (h' : List ℕ) (n₂ : ℕ) → Pushed h at.handed (picks (free_test at.m w₂) (part w₂ (6 * at.m) size)) h' n₂
+            → Cut c ws os ds rs at w h t w₂ h' t' (record { listed = k; size = size; handed = n₂; taken = n' })
+        cut_done h' n₂ p = record {
+          handed = subst (λ (x : List ℕ). Pushed h at.handed x h' n₂) hs_is p;
+          taken = subst (λ (x : List ℕ). Pushed t at.taken x t' n') es_is fits;
+          used = cut_used c ws os ds rs at.m at.d w at.left idle w₁ k p₁ (part t' at.taken (n' - at.taken)) (part_is ∙ es_is) w₂ size wk;
+          stays = cut_stays c ws os ds rs at.m at.d w at.left idle w₁ k p₁ (part t' at.taken (n' - at.taken)) (part_is ∙ es_is) w₂ size wk;
+          listed = listed;
+          some = omega (arith, nz);
+        }
+
+        pub cut_full : (h' : List ℕ) → Full h at.handed (picks (free_test at.m w₂) (part w₂ (6 * at.m) size)) h' → Uncut c ws os ds rs at w h t w₂ h' t' Room
+        cut_full h' f = record {
+          why = narrow (omega (arith, nz, listed)) (inl (subst (λ (x : List ℕ). length h < at.handed + length x) hs_is f.small)) refl;
+          work_long = wk.kept.long ∙ p₁.long;
+          handed_long = f.long;
+          taken_long = fits.long;
+        }

@@ -1,9 +1,11 @@
 -- One split in work words: between splits, after the visits, and at the end.
-use Rattle.std.specs.Prelude.{Some, ◌≡◌, ◌⊎◌, true, false, List, ◌++◌, map, ℕ, ◌+◌, ◌-◌, ◌*◌, ◌<◌, ◌≤◌, length, get_or, if◌then◌else◌}
+use Rattle.std.specs.Prelude.{Some, Result, Ok, Err, ◌≡◌, ◌⊎◌, true, List, ◌++◌, map, ℕ, ◌+◌, ◌-◌, ◌*◌, ◌<◌, ◌≤◌, length, get_or, if◌then◌else◌}
 use Rattle.laws.specs.Lists.{count, member, flat, over, upto}
 use Rattle.laws.specs.Search.{visits, level}
 use Rattle.laws.specs.Words.{part}
 use Rattle.rules.specs.declared.GraphCounts.{GraphCounts}
+use Rattle.rules.specs.declared.Refusal.{Refusal}
+use Rattle.rules.specs.declared.Refusal.TheVariants.{NothingRead, Room}
 use Rattle.rules.specs.Graph.{Graph}
 use Rattle.rules.specs.Tables.{drivers_in, record_in, ram_in}
 use Rattle.rules.specs.Stages.{Joining, Stage, split}
@@ -71,13 +73,29 @@ pub record Stays (m : ℕ) (w w' : List ℕ) : Type 0 where
   pub stops : (p : ℕ) → p < m → get_or w' (m + p) 0 ≡ get_or w (m + p) 0
   pub rest : (j : ℕ) → 8 * m ≤ j → get_or w' j 0 ≡ get_or w j 0
 
--- what a split leaves: its stage behind what the tables held, or that a table has too little room
-pub data CutOff (c : GraphCounts) (ws os ds rs : List ℕ) (at : Spot) (w h t w' h' t' : List ℕ) (r : Piece) : Type 0 where
-  made : Pushed h at.handed (split_in c ws os ds rs at.m (part w (8 * at.m) at.left) (stops_of w at.m) at.d).handed h' r.handed
-      → Pushed t at.taken (split_in c ws os ds rs at.m (part w (8 * at.m) at.left) (stops_of w at.m) at.d).taken t' r.taken
-      → Used at.m w' r.listed r.size → Stays at.m w w'
-      → r.listed ≡ length (order_in c ws os ds rs at.m (part w (8 * at.m) at.left) (stops_of w at.m)) → r.fits ≡ true → CutOff c ws os ds rs at w h t w' h' t' r
-  narrow : (length h < at.handed + length (split_in c ws os ds rs at.m (part w (8 * at.m) at.left) (stops_of w at.m) at.d).handed)
-      ⊎ (length t < at.taken + length (split_in c ws os ds rs at.m (part w (8 * at.m) at.left) (stops_of w at.m) at.d).taken)
-      → length w' ≡ length w → length h' ≡ length h → length t' ≡ length t
-      → r.listed ≡ length (order_in c ws os ds rs at.m (part w (8 * at.m) at.left) (stops_of w at.m)) → r.fits ≡ false → CutOff c ws os ds rs at w h t w' h' t' r
+-- a split that was made: its stage stands behind what the tables held
+pub record Cut (c : GraphCounts) (ws os ds rs : List ℕ) (at : Spot) (w h t w' h' t' : List ℕ) (p : Piece) : Type 0 where
+  pub handed : Pushed h at.handed (split_in c ws os ds rs at.m (part w (8 * at.m) at.left) (stops_of w at.m) at.d).handed h' p.handed
+  pub taken : Pushed t at.taken (split_in c ws os ds rs at.m (part w (8 * at.m) at.left) (stops_of w at.m) at.d).taken t' p.taken
+  pub used : Used at.m w' p.listed p.size
+  pub stays : Stays at.m w w'
+  pub listed : p.listed ≡ length (order_in c ws os ds rs at.m (part w (8 * at.m) at.left) (stops_of w at.m))
+  pub some : 0 < p.listed
+
+-- why it was not made: nothing is read, or a table has too little room
+pub data Unmade (c : GraphCounts) (ws os ds rs : List ℕ) (at : Spot) (w h t : List ℕ) (e : Refusal) : Type 0 where
+  nothing : length (order_in c ws os ds rs at.m (part w (8 * at.m) at.left) (stops_of w at.m)) ≡ 0 → e ≡ NothingRead → Unmade c ws os ds rs at w h t e
+  narrow : 0 < length (order_in c ws os ds rs at.m (part w (8 * at.m) at.left) (stops_of w at.m))
+      → (length h < at.handed + length (split_in c ws os ds rs at.m (part w (8 * at.m) at.left) (stops_of w at.m) at.d).handed) ⊎ (length t < at.taken + length (split_in c ws os ds rs at.m (part w (8 * at.m) at.left) (stops_of w at.m) at.d).taken)
+      → e ≡ Room → Unmade c ws os ds rs at w h t e
+
+pub record Uncut (c : GraphCounts) (ws os ds rs : List ℕ) (at : Spot) (w h t w' h' t' : List ℕ) (e : Refusal) : Type 0 where
+  pub why : Unmade c ws os ds rs at w h t e
+  pub work_long : length w' ≡ length w
+  pub handed_long : length h' ≡ length h
+  pub taken_long : length t' ≡ length t
+
+-- what a split leaves
+abbrev pub CutOff : GraphCounts → List ℕ → List ℕ → List ℕ → List ℕ → Spot → List ℕ → List ℕ → List ℕ → List ℕ → List ℕ → List ℕ → Result Piece Refusal → Type 0
+CutOff c ws os ds rs at w h t w' h' t' (Ok p) = Cut c ws os ds rs at w h t w' h' t' p
+CutOff c ws os ds rs at w h t w' h' t' (Err e) = Uncut c ws os ds rs at w h t w' h' t' e

@@ -16,7 +16,7 @@ ghost use Rattle.splits.specs.State.{Idle, Prepared, WorkedOut, CutOff};
 use joins::{join_all, read_taken};
 use levels::{level_all, visit_left};
 use picks::{hand_on, take_all};
-use rules::GraphCounts;
+use rules::{GraphCounts, Refusal};
 
 // The visits, the levels and the readers; how many pins are listed.
 fn gather(
@@ -77,17 +77,16 @@ pub struct Spot {
     pub taken: usize,
 }
 
-// What it leaves: how many pins are listed and how many the set has, how many words are used then, and whether all fits.
+// What it leaves: how many pins are listed and how many the set has, and how many words of the tables are used then.
 #[derive(Drop)]
 pub struct Piece {
     pub listed: usize,
     pub size: usize,
     pub handed: usize,
     pub taken: usize,
-    pub fits: bool,
 }
 
-// One split of the endpoints left.
+// One split of the endpoints left. It is refused where they read nothing, and where a table has too little room.
 pub fn cut(
     c: GraphCounts,
     drivers: &[u32],
@@ -98,7 +97,7 @@ pub fn cut(
     handed: &mut [u32],
     taken: &mut [u32],
     at: Spot,
-) -> Piece
+) -> Result<Piece, Refusal>
     requires lent { Lent c outputs.now dffs.now rams.now }
     requires reads_fit { ReadsFit c outputs.now dffs.now rams.now at.m }
     requires idle { Idle drivers.now at.m (endpoints c) work.old at.left }
@@ -110,26 +109,23 @@ pub fn cut(
     let d = at.d;
     let first = at.taken;
     let k = gather(c, drivers, outputs, dffs, rams, work, m, at.left);
-    let t = take_all(c, outputs, dffs, rams, work, m, d, at.left, taken, first);
-    if !t.fits {
-        return Piece {
-            listed: k,
-            size: 0,
-            handed: at.handed,
-            taken: t.count,
-            fits: false,
-        };
+    if k == 0 {
+        return Err(Refusal::NothingRead);
     }
-    let count = t.count - first;
+    let Some(t) = take_all(c, outputs, dffs, rams, work, m, d, at.left, taken, first) else {
+        return Err(Refusal::Room);
+    };
+    let count = t - first;
     let size = work_out(
         c, drivers, outputs, dffs, rams, taken, first, count, work, m, d, k,
     );
-    let h = hand_on(work, m, size, handed, at.handed);
-    Piece {
+    let Some(h) = hand_on(work, m, size, handed, at.handed) else {
+        return Err(Refusal::Room);
+    };
+    Ok(Piece {
         listed: k,
         size,
-        handed: h.count,
-        taken: t.count,
-        fits: h.fits,
-    }
+        handed: h,
+        taken: t,
+    })
 }

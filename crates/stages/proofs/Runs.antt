@@ -20,6 +20,7 @@ use Rattle.laws.proofs.Ranges.{map_past, length-map-upto}
 use Rattle.laws.proofs.Bags.{nil_is, flat-joined}
 use Rattle.laws.proofs.Words.{part_none, part_length}
 use Rattle.rules.specs.declared.GraphCounts.{GraphCounts}
+use Rattle.rules.specs.declared.Refusal.{Refusal}
 use Rattle.rules.specs.declared.Driver.TheVariants.{Constant}
 use Rattle.rules.specs.Graph.{Graph, operands, driver_of}
 use Rattle.rules.specs.Tables.{driver_or, decode_at, record_in, ram_in, graph_in, end_marker, row_words, all_handed, all_taken}
@@ -35,9 +36,9 @@ use Rattle.graphs.specs.Parts.{lent as words_of}
 use Rattle.reads.specs.Reads.{Lent}
 use Rattle.levels.proofs.Ranked.{level_le}
 use Rattle.turns.specs.declared.Run.{Run}
-use Rattle.turns.specs.declared.Step.{Step}
-use Rattle.turns.specs.State.{Turn, stage_in, Turned, ended, goes_on, narrow}
-use Rattle.stages.specs.State.{LevelAt, level as at_level, none_left, Start, stages_in, Short, Lengths, Planned, nothing, short, laid}
+use Rattle.turns.specs.declared.Plan.{Plan}
+use Rattle.turns.specs.State.{Turn, stage_in, Ended, GoesOn, Unmade as TurnUnmade, nothing as turn_nothing, narrow as turn_narrow, Stopped}
+use Rattle.stages.specs.State.{LevelAt, level as at_level, none_left, Start, stages_in, Lengths, Laid, Unmade, nothing, short, Unlaid}
 
 -- ---- the level of a stage
 pub level-none : (splits : List ℕ) (i lower : ℕ) → length splits ≤ i → LevelAt splits i lower 4294967295 4294967295
@@ -203,150 +204,128 @@ module _ (c : GraphCounts) (ws os ds rs splits w₀ l₀ h₀ t₀ w l h t : Lis
     unfolding stage_in
     reads_on n = some_in (split g L B (Some d)).handed n (λ p m. next-reads g s.turn.sound.checked L B (Some d) p m)
 
-    module _ (w' l' h' t' : List ℕ) (x : Step) (q : Turned c ws os ds rs w l h t at upper d w' l' h' t' x) where
-      lengths_of_lem : Turned c ws os ds rs w l h t at upper d w' l' h' t' x → Lengths w₀ l₀ h₀ t₀ w' l' h' t'
-      lengths_of_lem (ended rd z ph pt pl lw la fi) =
-          record { work = lw ∙ s.same_work; rows = pl.long ∙ s.same_rows; handed = ph.long ∙ s.same_handed; taken = pt.long ∙ s.same_taken }
-      lengths_of_lem (goes_on rd z ph pt pl id le be lw la fi) =
-          record { work = lw ∙ s.same_work; rows = pl.long ∙ s.same_rows; handed = ph.long ∙ s.same_handed; taken = pt.long ∙ s.same_taken }
-      lengths_of_lem (narrow rd a lw ll lh lt fi) = record { work = lw ∙ s.same_work; rows = ll ∙ s.same_rows; handed = lh ∙ s.same_handed; taken = lt ∙ s.same_taken }
+    -- what is read now was read at first
+    something : something_read g L ≡ true → something_read g (upto (endpoints c)) ≡ true
+    something y = by_test (0 <? i)
+        (λ t₁. s.first (ltb-true 0 i t₁))
+        (λ f. let z : i ≡ 0 = omega (arith, ltb-false 0 i f) in ap (something_read g) (sym (s.start z)) ∙ y)
 
-      read_is : Turned c ws os ds rs w l h t at upper d w' l' h' t' x → x.read ≡ something_read g L
-      read_is (ended rd z ph pt pl lw la fi) = rd.read
-      read_is (goes_on rd z ph pt pl id le be lw la fi) = rd.read
-      read_is (narrow rd a lw ll lh lt fi) = rd.read
+    nothing_at_first : something_read g L ≡ false → something_read g (upto (endpoints c)) ≡ false
+    nothing_at_first n = by_test (0 <? i)
+        (λ t₁. true≢false (something_read g L) (s.read (ltb-true 0 i t₁)) n)
+        (λ f. let z : i ≡ 0 = omega (arith, ltb-false 0 i f) in ap (something_read g) (sym (s.start z)) ∙ n)
 
-      first_is : (b : Bool) → x.read ≡ b → (b ≡ true → 0 < i → something_read g (upto (endpoints c)) ≡ true) → (b ≡ false → 0 < i → ⊥) → something_read g (upto (endpoints c)) ≡ b
-      first_is b e fy no_way = by_test (0 <? i)
-          (λ t₁. let k = ltb-true 0 i t₁ in by_bit b (λ y. fy y k ∙ sym y) (λ n. absurd (no_way n k)))
-          (λ f. let z : i ≡ 0 = omega (arith, ltb-false 0 i f) in ap (something_read g) (sym (s.start z)) ∙ sym (read_is q) ∙ e)
+    first_row : {P : Type 0} → ((u : Option ℕ) (rest : List Row) → stages_in c ws os ds rs splits ≡ s.done ++ (row lower u S ∷ rest) → P) → P
+    first_row k = by_test (is_nil S.handed)
+        (λ e. k None [] (s.rest ∙ ap (λ (z : List Row). s.done ++ z) ((rest_is lv).0 (nil_is S.handed e))))
+        (λ n. k (Some upper) (stages_from g upper (over remove L S.taken) (B ++ S.handed) (drop (suc i) splits)) (s.rest ∙ ap (λ (z : List Row). s.done ++ z) ((rest_is lv).1 n).2))
+
+    sizes : (u : Option ℕ) (rest : List Row) → stages_in c ws os ds rs splits ≡ s.done ++ (row lower u S ∷ rest)
+        → (r + 4 ≤ length (stage_rows (stages_in c ws os ds rs splits))) × (nh + length S.handed ≤ length (all_handed (stages_in c ws os ds rs splits)))
+        × (nt + length S.taken ≤ length (all_taken (stages_in c ws os ds rs splits)))
+    sizes u rest e = (
+      omega (
+        arith,
+        ap (λ (z : List Row). length (stage_rows z)) e,
+        ap length (flat-joined row_words s.done (row lower u S ∷ rest)),
+        length-append (stage_rows s.done) (stage_rows (row lower u S ∷ rest)),
+        part_length l 0 r (omega (arith, s.turn.rows_open.inside)),
+        ap length s.rows_are,
+      ),
+      omega (
+        arith,
+        ap (λ (z : List Row). length (all_handed z)) e,
+        ap length (flat-joined (λ z. z.stage.handed) s.done (row lower u S ∷ rest)),
+        length-append (all_handed s.done) (all_handed (row lower u S ∷ rest)),
+        length-append S.handed (all_handed rest),
+        part_length h 0 nh (omega (arith, s.turn.handed_open.inside)),
+        ap length s.handed_are,
+      ),
+      omega (
+        arith,
+        ap (λ (z : List Row). length (all_taken z)) e,
+        ap length (flat-joined (λ z. z.stage.taken) s.done (row lower u S ∷ rest)),
+        length-append (all_taken s.done) (all_taken (row lower u S ∷ rest)),
+        length-append S.taken (all_taken rest),
+        part_length t 0 nt (omega (arith, s.turn.taken_open.inside)),
+        ap length s.taken_are,
+      ),
+    )
+
+    -- what one row more makes of the tables
+    rows_more : (u : Option ℕ) → stage_rows (s.done ++ (row lower u S ∷ [])) ≡ stage_rows s.done ++ row_words (row lower u S)
+    rows_more u = flat-joined row_words s.done (row lower u S ∷ []) ∙ ap (λ (z : List ℕ). stage_rows s.done ++ z) (append-nil (row_words (row lower u S)))
+
+    handed_more : (u : Option ℕ) → all_handed (s.done ++ (row lower u S ∷ [])) ≡ all_handed s.done ++ S.handed
+    handed_more u = flat-joined (λ z. z.stage.handed) s.done (row lower u S ∷ []) ∙ ap (λ (z : List ℕ). all_handed s.done ++ z) (append-nil S.handed)
+
+    taken_more : (u : Option ℕ) → all_taken (s.done ++ (row lower u S ∷ [])) ≡ all_taken s.done ++ S.taken
+    taken_more u = flat-joined (λ z. z.stage.taken) s.done (row lower u S ∷ []) ∙ ap (λ (z : List ℕ). all_taken s.done ++ z) (append-nil S.taken)
+
+    module _ (w' l' h' t' : List ℕ) where
+      lengths_by : length w' ≡ length w → length l' ≡ length l → length h' ≡ length h → length t' ≡ length t → Lengths w₀ l₀ h₀ t₀ w' l' h' t'
+      lengths_by lw ll lh lt = record { work = lw ∙ s.same_work; rows = ll ∙ s.same_rows; handed = lh ∙ s.same_handed; taken = lt ∙ s.same_taken }
+
+      pub run_refused : (e : Refusal) → Stopped c ws os ds rs w l h t at d w' l' h' t' e → Unlaid c ws os ds rs splits w₀ l₀ h₀ t₀ w' l' h' t' e
+      run_refused e u = record { why = by_reason u.why; lengths = lengths_by u.work_long u.rows_long u.handed_long u.taken_long }
         where
-          by_bit : (b : Bool) → (b ≡ true → something_read g (upto (endpoints c)) ≡ b) → (b ≡ false → something_read g (upto (endpoints c)) ≡ b) → something_read g (upto (endpoints c)) ≡ b
-          by_bit true f n = f refl
-          by_bit false f n = n refl
+          by_reason : TurnUnmade c ws os ds rs w l h t at d e → Unmade c ws os ds rs splits l₀ h₀ t₀ e
+          by_reason (turn_nothing n v) = nothing (nothing_at_first n) v
+          by_reason (turn_narrow y (inl a) v) = short (something y) (first_row (λ u rest e. inl (omega (arith, a, s.same_rows, (sizes u rest e).0)))) v
+          by_reason (turn_narrow y (inr (inl a)) v) = short (something y) (first_row (λ u rest e. inr (inl (omega (arith, a, s.same_handed, (sizes u rest e).1))))) v
+          by_reason (turn_narrow y (inr (inr a)) v) = short (something y) (first_row (λ u rest e. inr (inr (omega (arith, a, s.same_taken, (sizes u rest e).2))))) v
 
-      pub run_14 : x.read ≡ false → Planned c ws os ds rs splits w₀ l₀ h₀ t₀ w' l' h' t' (record { rows = 0; handed = 0; taken = 0; number = 14 })
-      run_14 f = nothing (first_is false f (λ y k. true≢false false y refl) (λ n k. true≢false x.read (read_is q ∙ s.read k) f)) (lengths_of_lem q) refl
+      pub run_done : (p : Plan) → Ended c ws os ds rs w l h t at d w' l' h' t' p → Laid c ws os ds rs splits w₀ l₀ h₀ t₀ w' l' h' t' p
+      run_done p q =
+          let all : stages_in c ws os ds rs splits ≡ s.done ++ (row lower None S ∷ []) = s.rest ∙ ap (λ (v : List Row). s.done ++ v) ((rest_is lv).0 q.none_handed) in
+          record {
+            read = something q.read;
+            rows_open = q.rows.ready;
+            handed_open = q.handed.ready;
+            taken_open = q.taken.ready;
+            rows = q.rows.words ∙ (λ j. s.rows_are j ++ (lower ∷ end_marker ∷ length (sym q.none_handed j) ∷ length S.taken ∷ [])) ∙ sym (rows_more None) ∙ ap stage_rows (sym all);
+            handed = q.handed.words ∙ ap (λ (v : List ℕ). v ++ S.handed) s.handed_are ∙ sym (handed_more None) ∙ ap all_handed (sym all);
+            taken = q.taken.words ∙ ap (λ (v : List ℕ). v ++ S.taken) s.taken_are ∙ sym (taken_more None) ∙ ap all_taken (sym all);
+            lengths = lengths_by q.work_long q.rows.long q.handed.long q.taken.long;
+          }
 
-      module _ (y : x.read ≡ true) where
-        something : something_read g (upto (endpoints c)) ≡ true
-        something = first_is true y (λ _ k. s.first k) (λ n k. true≢false true refl n)
-
-        first_row : {P : Type 0} → ((u : Option ℕ) (rest : List Row) → stages_in c ws os ds rs splits ≡ s.done ++ (row lower u S ∷ rest) → P) → P
-        first_row k = by_test (is_nil S.handed)
-            (λ e. k None [] (s.rest ∙ ap (λ (z : List Row). s.done ++ z) ((rest_is lv).0 (nil_is S.handed e))))
-            (λ n. k (Some upper) (stages_from g upper (over remove L S.taken) (B ++ S.handed) (drop (suc i) splits)) (s.rest ∙ ap (λ (z : List Row). s.done ++ z) ((rest_is lv).1 n).2))
-
-        sizes : (u : Option ℕ) (rest : List Row) → stages_in c ws os ds rs splits ≡ s.done ++ (row lower u S ∷ rest)
-            → (r + 4 ≤ length (stage_rows (stages_in c ws os ds rs splits))) × (nh + length S.handed ≤ length (all_handed (stages_in c ws os ds rs splits)))
-            × (nt + length S.taken ≤ length (all_taken (stages_in c ws os ds rs splits)))
-        sizes u rest e = (
-          omega (
-            arith,
-            ap (λ (z : List Row). length (stage_rows z)) e,
-            ap length (flat-joined row_words s.done (row lower u S ∷ rest)),
-            length-append (stage_rows s.done) (stage_rows (row lower u S ∷ rest)),
-            part_length l 0 r (omega (arith, s.turn.rows_open.inside)),
-            ap length s.rows_are,
-          ),
-          omega (
-            arith,
-            ap (λ (z : List Row). length (all_handed z)) e,
-            ap length (flat-joined (λ z. z.stage.handed) s.done (row lower u S ∷ rest)),
-            length-append (all_handed s.done) (all_handed (row lower u S ∷ rest)),
-            length-append S.handed (all_handed rest),
-            part_length h 0 nh (omega (arith, s.turn.handed_open.inside)),
-            ap length s.handed_are,
-          ),
-          omega (
-            arith,
-            ap (λ (z : List Row). length (all_taken z)) e,
-            ap length (flat-joined (λ z. z.stage.taken) s.done (row lower u S ∷ rest)),
-            length-append (all_taken s.done) (all_taken (row lower u S ∷ rest)),
-            length-append S.taken (all_taken rest),
-            part_length t 0 nt (omega (arith, s.turn.taken_open.inside)),
-            ap length s.taken_are,
-          ),
-        )
-
-        too_short : Turned c ws os ds rs w l h t at upper d w' l' h' t' x → x.fits ≡ false → Short (stages_in c ws os ds rs splits) l₀ h₀ t₀
-        too_short (ended rd z ph pt pl lw la fi) f = true≢false x.fits fi f
-        too_short (goes_on rd z ph pt pl id le be lw la fi) f = true≢false x.fits fi f
-        too_short (narrow rd (inl a) lw ll lh lt fi) f = first_row (λ u rest e. inl (omega (arith, a, s.same_rows, (sizes u rest e).0)))
-        too_short (narrow rd (inr (inl a)) lw ll lh lt fi) f = first_row (λ u rest e. inr (inl (omega (arith, a, s.same_handed, (sizes u rest e).1))))
-        too_short (narrow rd (inr (inr a)) lw ll lh lt fi) f = first_row (λ u rest e. inr (inr (omega (arith, a, s.same_taken, (sizes u rest e).2))))
-
-        pub run_11 : x.fits ≡ false → Planned c ws os ds rs splits w₀ l₀ h₀ t₀ w' l' h' t' (record { rows = 0; handed = 0; taken = 0; number = 11 })
-        run_11 f = short something (too_short q f) (lengths_of_lem q) refl
-
-        module _ (fits : x.fits ≡ true) where
-          -- what one row more makes of the tables
-          rows_more : (u : Option ℕ) → stage_rows (s.done ++ (row lower u S ∷ [])) ≡ stage_rows s.done ++ row_words (row lower u S)
-          rows_more u = flat-joined row_words s.done (row lower u S ∷ []) ∙ ap (λ (z : List ℕ). stage_rows s.done ++ z) (append-nil (row_words (row lower u S)))
-
-          handed_more : (u : Option ℕ) → all_handed (s.done ++ (row lower u S ∷ [])) ≡ all_handed s.done ++ S.handed
-          handed_more u = flat-joined (λ z. z.stage.handed) s.done (row lower u S ∷ []) ∙ ap (λ (z : List ℕ). all_handed s.done ++ z) (append-nil S.handed)
-
-          taken_more : (u : Option ℕ) → all_taken (s.done ++ (row lower u S ∷ [])) ≡ all_taken s.done ++ S.taken
-          taken_more u = flat-joined (λ z. z.stage.taken) s.done (row lower u S ∷ []) ∙ ap (λ (z : List ℕ). all_taken s.done ++ z) (append-nil S.taken)
-
-          at_end : Turned c ws os ds rs w l h t at upper d w' l' h' t' x → x.last ≡ true
-              → Planned c ws os ds rs splits w₀ l₀ h₀ t₀ w' l' h' t' (record { rows = x.rows; handed = x.handed; taken = x.taken; number = 0 })
-          at_end (ended rd z ph pt pl lw la fi) k =
-              let all : stages_in c ws os ds rs splits ≡ s.done ++ (row lower None S ∷ []) = s.rest ∙ ap (λ (v : List Row). s.done ++ v) ((rest_is lv).0 z) in
-              laid something pl.ready ph.ready pt.ready
-              (pl.words ∙ (λ j. s.rows_are j ++ (lower ∷ end_marker ∷ length (sym z j) ∷ length S.taken ∷ [])) ∙ sym (rows_more None) ∙ ap stage_rows (sym all))
-              (ph.words ∙ ap (λ (v : List ℕ). v ++ S.handed) s.handed_are ∙ sym (handed_more None) ∙ ap all_handed (sym all))
-              (pt.words ∙ ap (λ (v : List ℕ). v ++ S.taken) s.taken_are ∙ sym (taken_more None) ∙ ap all_taken (sym all))
-              (lengths_of_lem (ended rd z ph pt pl lw la fi)) refl
-          at_end (goes_on rd z ph pt pl id le be lw la fi) k = true≢false x.last k la
-          at_end (narrow rd a lw ll lh lt fi) k = true≢false x.fits fits fi
-
-          pub run_done : x.last ≡ true → Planned c ws os ds rs splits w₀ l₀ h₀ t₀ w' l' h' t' (record { rows = x.rows; handed = x.handed; taken = x.taken; number = 0 })
-          run_done = at_end q
-
-          next_turn : Turned c ws os ds rs w l h t at upper d w' l' h' t' x → x.last ≡ false
-              → Staging c ws os ds rs splits w₀ l₀ h₀ t₀ w' l' h' t' upper x.left x.rows x.handed x.taken (i + 1)
-          next_turn (ended rd z ph pt pl lw la fi) k = true≢false x.last la k
-          next_turn (narrow rd a lw ll lh lt fi) k = true≢false x.fits fits fi
-          next_turn (goes_on rd z ph pt pl id le be lw la fi) k =
-              let n = (rest_is lv).1 z in
-              let li : i < length splits = n.0 in
-              let eu : upper ≡ get_or splits i 0 = n.1 in
-              let de : drop i splits ≡ get_or splits i 0 ∷ drop (suc i) splits = drop-cons splits i 0 li in
-              let up : rising (get_or splits i 0 ∷ drop (suc i) splits) ≡ true = subst (λ (v : List ℕ). rising v ≡ true) de s.climbs in
-              let ln : Lengths w₀ l₀ h₀ t₀ w' l' h' t' = lengths_of_lem (goes_on rd z ph pt pl id le be lw la fi) in
-              record {
-                turn = record {
-                  sound = subst (λ (v : ℕ). Rattle.asked.specs.Answer.Sound c ws os ds rs v) (sym lw) s.turn.sound;
-                  idle = id;
-                  before = be;
-                  rows_open = pl.ready;
-                  handed_open = ph.ready;
-                  taken_open = pt.ready;
-                  handed_few = omega (arith, ph.long, s.turn.handed_few);
-                  taken_few = omega (arith, pt.long, s.turn.taken_few);
-                };
-                inside = omega arith;
-                few = s.few;
-                climb = λ lj. omega (arith, eu, climb_next (get_or splits i 0) splits i up lj);
-                climbs = subst (λ (v : ℕ). rising (drop v splits) ≡ true) (sym (add-one i)) (tail_rises (get_or splits i 0) (drop (suc i) splits) up);
-                done = s.done ++ (row lower (Some upper) S ∷ []);
-                rest = s.rest ∙ ap (λ (v : List Row). s.done ++ v) n.2
-                    ∙ sym (append_assoc s.done (row lower (Some upper) S ∷ []) (stages_from g upper (over remove L S.taken) (B ++ S.handed) (drop (suc i) splits)))
-                    ∙ (λ j. (s.done ++ (row lower (Some upper) S ∷ [])) ++ stages_from g upper (sym le j) (sym ph.words j) (drop (sym (add-one i) j) splits));
-                rows_are = pl.words ∙ ap (λ (v : List ℕ). v ++ (lower ∷ upper ∷ length S.handed ∷ length S.taken ∷ [])) s.rows_are ∙ sym (rows_more (Some upper));
-                handed_are = ph.words ∙ ap (λ (v : List ℕ). v ++ S.handed) s.handed_are ∙ sym (handed_more (Some upper));
-                taken_are = pt.words ∙ ap (λ (v : List ℕ). v ++ S.taken) s.taken_are ∙ sym (taken_more (Some upper));
-                read = λ _. ap (something_read g) le ∙ reads_on z;
-                first = λ _. something;
-                start = λ e. absurd (omega (arith, e));
-                lengths = ln;
-                same_work = ln.work;
-                same_rows = ln.rows;
-                same_handed = ln.handed;
-                same_taken = ln.taken;
-              }
-
-          pub run_goes_on : x.last ≡ false → Staging c ws os ds rs splits w₀ l₀ h₀ t₀ w' l' h' t' upper x.left x.rows x.handed x.taken (i + 1)
-          run_goes_on = next_turn q
+      pub run_goes_on : (x : Run) → GoesOn c ws os ds rs w l h t at upper d w' l' h' t' x
+          → Staging c ws os ds rs splits w₀ l₀ h₀ t₀ w' l' h' t' x.lower x.left x.rows x.handed x.taken (i + 1)
+      run_goes_on x q =
+          let n = (rest_is lv).1 q.some_handed in
+          let li : i < length splits = n.0 in
+          let eu : upper ≡ get_or splits i 0 = n.1 in
+          let de : drop i splits ≡ get_or splits i 0 ∷ drop (suc i) splits = drop-cons splits i 0 li in
+          let up : rising (get_or splits i 0 ∷ drop (suc i) splits) ≡ true = subst (λ (v : List ℕ). rising v ≡ true) de s.climbs in
+          let ln : Lengths w₀ l₀ h₀ t₀ w' l' h' t' = lengths_by q.work_long q.rows.long q.handed.long q.taken.long in
+          record {
+            turn = record {
+              sound = subst (λ (v : ℕ). Rattle.asked.specs.Answer.Sound c ws os ds rs v) (sym q.work_long) s.turn.sound;
+              idle = q.idle;
+              before = q.before;
+              rows_open = q.rows.ready;
+              handed_open = q.handed.ready;
+              taken_open = q.taken.ready;
+              handed_few = omega (arith, q.handed.long, s.turn.handed_few);
+              taken_few = omega (arith, q.taken.long, s.turn.taken_few);
+            };
+            inside = omega arith;
+            few = s.few;
+            climb = λ lj. omega (arith, q.lower, eu, climb_next (get_or splits i 0) splits i up lj);
+            climbs = subst (λ (v : ℕ). rising (drop v splits) ≡ true) (sym (add-one i)) (tail_rises (get_or splits i 0) (drop (suc i) splits) up);
+            done = s.done ++ (row lower (Some upper) S ∷ []);
+            rest = s.rest ∙ ap (λ (v : List Row). s.done ++ v) n.2
+                ∙ sym (append_assoc s.done (row lower (Some upper) S ∷ []) (stages_from g upper (over remove L S.taken) (B ++ S.handed) (drop (suc i) splits)))
+                ∙ (λ j. (s.done ++ (row lower (Some upper) S ∷ [])) ++ stages_from g (sym q.lower j) (sym q.left j) (sym q.handed.words j) (drop (sym (add-one i) j) splits));
+            rows_are = q.rows.words ∙ ap (λ (v : List ℕ). v ++ (lower ∷ upper ∷ length S.handed ∷ length S.taken ∷ [])) s.rows_are ∙ sym (rows_more (Some upper));
+            handed_are = q.handed.words ∙ ap (λ (v : List ℕ). v ++ S.handed) s.handed_are ∙ sym (handed_more (Some upper));
+            taken_are = q.taken.words ∙ ap (λ (v : List ℕ). v ++ S.taken) s.taken_are ∙ sym (taken_more (Some upper));
+            read = λ _. ap (something_read g) q.left ∙ reads_on q.some_handed;
+            first = λ _. something q.read;
+            start = λ e. absurd (omega (arith, e));
+            lengths = ln;
+            same_work = ln.work;
+            same_rows = ln.rows;
+            same_handed = ln.handed;
+            same_taken = ln.taken;
+          }

@@ -1,17 +1,19 @@
 -- The stages in a row: where they begin and what they leave.
-use Rattle.std.specs.Prelude.{◌≡◌, ◌⊎◌, true, false, List, ℕ, ◌+◌, ◌-◌, ◌*◌, ◌<◌, ◌≤◌, length, get_or}
+use Rattle.std.specs.Prelude.{Result, Ok, Err, ◌≡◌, ◌⊎◌, true, false, List, ℕ, ◌+◌, ◌-◌, ◌*◌, ◌<◌, ◌≤◌, length, get_or}
 use Rattle.laws.specs.Lists.{upto}
 use Rattle.laws.specs.Words.{part}
 use Rattle.rules.specs.declared.GraphCounts.{GraphCounts}
+use Rattle.rules.specs.declared.Refusal.{Refusal}
+use Rattle.rules.specs.declared.Refusal.TheVariants.{NothingRead, Room}
 use Rattle.rules.specs.Tables.{graph_in, end_marker, all_handed, all_taken}
 use Rattle.rules.specs.Stages.{Row, stages}
 use Rattle.rules.specs.Refusals.{something_read, rising}
 use Rattle.rules.specs.Answers.{endpoints, stage_rows}
 use Rattle.graphs.specs.Parts.{lent as words_of}
 use Rattle.picks.specs.Tables.{Open}
+use Rattle.turns.specs.declared.Plan.{Plan}
 use Rattle.turns.specs.declared.Run.{Run}
 use Rattle.turns.specs.State.{Turn}
-use Rattle.stages.specs.declared.Plan.{Plan}
 
 -- an upper end and the difference from the lower one; without an upper end both are the end marker
 pub data LevelAt (splits : List ℕ) (i lower upper d : ℕ) : Type 0 where
@@ -43,14 +45,27 @@ pub record Lengths (w l h t w' l' h' t' : List ℕ) : Type 0 where
   pub handed : length h' ≡ length h
   pub taken : length t' ≡ length t
 
-pub data Planned (c : GraphCounts) (ws os ds rs splits w l h t w' l' h' t' : List ℕ) (r : Plan) : Type 0 where
-  nothing : something_read (graph_in c (words_of ws os ds rs)) (upto (endpoints c)) ≡ false → Lengths w l h t w' l' h' t' → r.number ≡ 14
-      → Planned c ws os ds rs splits w l h t w' l' h' t' r
-  short : something_read (graph_in c (words_of ws os ds rs)) (upto (endpoints c)) ≡ true → Short (stages_in c ws os ds rs splits) l h t → Lengths w l h t w' l' h' t' → r.number ≡ 11
-      → Planned c ws os ds rs splits w l h t w' l' h' t' r
-  laid : something_read (graph_in c (words_of ws os ds rs)) (upto (endpoints c)) ≡ true
-      → Open l' r.rows → Open h' r.handed → Open t' r.taken
-      → part l' 0 r.rows ≡ stage_rows (stages_in c ws os ds rs splits)
-      → part h' 0 r.handed ≡ all_handed (stages_in c ws os ds rs splits)
-      → part t' 0 r.taken ≡ all_taken (stages_in c ws os ds rs splits)
-      → Lengths w l h t w' l' h' t' → r.number ≡ 0 → Planned c ws os ds rs splits w l h t w' l' h' t' r
+-- the stages stand in the tables, and nothing behind them
+pub record Laid (c : GraphCounts) (ws os ds rs splits w l h t w' l' h' t' : List ℕ) (r : Plan) : Type 0 where
+  pub read : something_read (graph_in c (words_of ws os ds rs)) (upto (endpoints c)) ≡ true
+  pub rows_open : Open l' r.rows
+  pub handed_open : Open h' r.handed
+  pub taken_open : Open t' r.taken
+  pub rows : part l' 0 r.rows ≡ stage_rows (stages_in c ws os ds rs splits)
+  pub handed : part h' 0 r.handed ≡ all_handed (stages_in c ws os ds rs splits)
+  pub taken : part t' 0 r.taken ≡ all_taken (stages_in c ws os ds rs splits)
+  pub lengths : Lengths w l h t w' l' h' t'
+
+-- why there are no stages
+pub data Unmade (c : GraphCounts) (ws os ds rs splits l h t : List ℕ) (e : Refusal) : Type 0 where
+  nothing : something_read (graph_in c (words_of ws os ds rs)) (upto (endpoints c)) ≡ false → e ≡ NothingRead → Unmade c ws os ds rs splits l h t e
+  short : something_read (graph_in c (words_of ws os ds rs)) (upto (endpoints c)) ≡ true → Short (stages_in c ws os ds rs splits) l h t → e ≡ Room → Unmade c ws os ds rs splits l h t e
+
+pub record Unlaid (c : GraphCounts) (ws os ds rs splits w l h t w' l' h' t' : List ℕ) (e : Refusal) : Type 0 where
+  pub why : Unmade c ws os ds rs splits l h t e
+  pub lengths : Lengths w l h t w' l' h' t'
+
+-- what the stages leave
+abbrev pub Planned : GraphCounts → List ℕ → List ℕ → List ℕ → List ℕ → List ℕ → List ℕ → List ℕ → List ℕ → List ℕ → List ℕ → List ℕ → List ℕ → List ℕ → Result Plan Refusal → Type 0
+Planned c ws os ds rs splits w l h t w' l' h' t' (Ok r) = Laid c ws os ds rs splits w l h t w' l' h' t' r
+Planned c ws os ds rs splits w l h t w' l' h' t' (Err e) = Unlaid c ws os ds rs splits w l h t w' l' h' t' e

@@ -4,9 +4,9 @@
 ghost use Rattle.std.specs.Prelude.{◌≡◌, ℕ, ◌+◌, ◌*◌, ◌<◌, ◌≤◌, length, get_or};
 ghost use Rattle.stages.specs.State.{LevelAt, Start, Planned};
 
-use rules::GraphCounts;
+use rules::{GraphCounts, Refusal};
 use subsets::num_endpoint_groups;
-use turns::{Run, stage};
+use turns::{Plan, Run, Step, stage};
 use words::word;
 
 // An upper end, and the difference from the lower one.
@@ -23,8 +23,8 @@ fn level_at(splits: &[u32], i: usize, lower: u32) -> Level
 {
     if splits.len() <= i {
         return Level {
-            upper: 4294967295,
-            d: 4294967295,
+            upper: u32::MAX,
+            d: u32::MAX,
         };
     }
     let b = word(splits, i);
@@ -32,16 +32,7 @@ fn level_at(splits: &[u32], i: usize, lower: u32) -> Level
     Level { upper: b, d }
 }
 
-// How many words of the tables are used, and the number of the refusal, 0 where there is none.
-#[derive(Drop)]
-pub struct Plan {
-    pub rows: usize,
-    pub handed: usize,
-    pub taken: usize,
-    pub number: u32,
-}
-
-// All stages: 14 where nothing is read, 11 where a table is too small.
+// All stages; how many words of the tables are used then. Refused where nothing is read, and where a table is too small.
 pub fn run(
     c: GraphCounts,
     drivers: &[u32],
@@ -53,73 +44,27 @@ pub fn run(
     rows: &mut [u32],
     handed: &mut [u32],
     taken: &mut [u32],
-) -> Plan
+) -> Result<Plan, Refusal>
     requires { Start c drivers.now outputs.now dffs.now rams.now splits.now work.old rows.old handed.old taken.old }
     ensures { Planned c drivers.now outputs.now dffs.now rams.now splits.now work.old rows.old handed.old taken.old work.new rows.new handed.new taken.new result }
 {
-    let mut lower: u32 = 0;
-    let mut left = num_endpoint_groups(c);
-    let mut r: usize = 0;
-    let mut h: usize = 0;
-    let mut t: usize = 0;
-    let mut i: usize = 0;
-    while i <= splits.len() {
-        let b = level_at(splits, i, lower);
-        let s = stage(
-            c,
-            drivers,
-            outputs,
-            dffs,
-            rams,
-            work,
-            rows,
-            handed,
-            taken,
-            Run {
-                lower,
-                left,
-                rows: r,
-                handed: h,
-                taken: t,
-            },
-            b.upper,
-            b.d,
-        );
-        if !s.read {
-            return Plan {
-                rows: 0,
-                handed: 0,
-                taken: 0,
-                number: 14,
-            };
+    let mut at = Run {
+        lower: 0,
+        left: num_endpoint_groups(c),
+        rows: 0,
+        handed: 0,
+        taken: 0,
+    };
+    for i in 0..=splits.len() {
+        let b = level_at(splits, i, at.lower);
+        let step = stage(
+            c, drivers, outputs, dffs, rams, work, rows, handed, taken, at, b.upper, b.d,
+        )?;
+        match step {
+            Step::More(next) => at = next,
+            Step::Last(plan) => return Ok(plan),
         }
-        if !s.fits {
-            return Plan {
-                rows: 0,
-                handed: 0,
-                taken: 0,
-                number: 11,
-            };
-        }
-        if s.last {
-            return Plan {
-                rows: s.rows,
-                handed: s.handed,
-                taken: s.taken,
-                number: 0,
-            };
-        }
-        lower = b.upper;
-        left = s.left;
-        r = s.rows;
-        h = s.handed;
-        t = s.taken;
-        i += 1;
     }
-    Plan {
-        rows: r,
-        handed: h,
-        taken: t,
-        number: 0,
-    }
+    // A stage with no upper end hands nothing on, so it is the last one.
+    unreachable!()
 }

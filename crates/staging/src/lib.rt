@@ -2,28 +2,25 @@
 #![tactic(auto)]
 
 ghost use Rattle.std.specs.Prelude.{◌≡◌, length};
+ghost use Rattle.rules.specs.Tables.{words_in};
 ghost use Rattle.staging.specs.Answer.{AllStages};
 
-use graphs::graph_number;
+use graphs::test_graph;
 use plans::{levels_fit, plan_checked};
-use rules::{GraphCounts, Staged};
+use rules::{GraphTables, Refusal, StagesSize};
 use words::zero;
 
 // One row a stage, with what all stages hand on and take, one after the other.
 pub fn build_staged_aigs(
-    c: GraphCounts,
-    drivers: &[u32],
-    outputs: &[u32],
-    dffs: &[u32],
-    rams: &[u32],
+    g: GraphTables,
     splits: &[u32],
     room: u32,
     rows: &mut [u32],
     handed: &mut [u32],
     taken: &mut [u32],
     work: &mut [u32],
-) -> Staged
-    ensures { AllStages c drivers.now outputs.now dffs.now rams.now splits.now room rows.old handed.old taken.old work.old rows.new handed.new taken.new work.new result }
+) -> Result<StagesSize, Refusal>
+    ensures { AllStages g.entry.ends.counts (words_in g.entry) splits.now room rows.old handed.old taken.old work.old rows.new handed.new taken.new work.new result }
 {
     zero(rows);
     zero(handed);
@@ -31,22 +28,21 @@ pub fn build_staged_aigs(
     zero(work);
     let levels = levels_fit(splits, room, handed.len(), taken.len());
     let long = 4 * (room as usize);
-    let k = graph_number(
-        c,
-        drivers,
-        outputs,
-        dffs,
-        rams,
-        work,
-        levels,
-        rows.len() == long,
-    );
+    let tested = test_graph(g, work, levels, rows.len() == long);
     zero(work);
-    if k != 0 {
-        return Staged::Refused(k);
-    }
+    tested?;
     let r = plan_checked(
-        c, drivers, outputs, dffs, rams, splits, room, rows, handed, taken, work,
+        g.ends.counts,
+        g.drivers,
+        g.ends.outputs,
+        g.ends.dffs,
+        g.ends.rams,
+        splits,
+        room,
+        rows,
+        handed,
+        taken,
+        work,
     );
     zero(work);
     r

@@ -7,6 +7,7 @@ use native.Mathlib.Numerals.{add-one}
 use native.Mathlib.Omega.{arith}
 use lib.ListN.{length, set, length-set}
 use borrow.Author.Tests.{le-leb, lt-leb, leb-true}
+use Rattle.std.specs.Prelude.{Ok, Err}
 use Rattle.laws.specs.Tests.{◌≤?◌, refuse}
 use Rattle.laws.specs.Lists.{upto}
 use Rattle.laws.specs.Words.{zeros, filled}
@@ -14,11 +15,14 @@ use Rattle.laws.proofs.Tests.{and_l, and_r, or_zero, last_refused}
 use Rattle.laws.proofs.Words.{zeros-length, filled_none, filled_more}
 use Rattle.laws.proofs.Ranges.{length-upto}
 use Rattle.rules.specs.declared.GraphCounts.{GraphCounts}
-use Rattle.rules.specs.declared.Parted.TheVariants.{Stage, Refused}
+use Rattle.rules.specs.declared.Refusal.{Refusal}
+use Rattle.rules.specs.declared.Refusal.TheVariants.{Bounds, Room}
+use Rattle.rules.specs.declared.StageSize.{StageSize}
 use Rattle.rules.specs.Bounds.{graph_within}
 use Rattle.rules.specs.Stages.{full_stage}
-use Rattle.rules.specs.Answers.{endpoints, parted_of, full_number}
+use Rattle.rules.specs.Answers.{done_of, stage_size, endpoints, full_number}
 use Rattle.rules.specs.Tables.{held}
+use Rattle.walk.proofs.Answered.{number_zero, answered, refused_too, held_none}
 use Rattle.subsets.specs.Answer.{FullStaged}
 
 -- a number that is not 0 is one more than another
@@ -53,21 +57,21 @@ up_ends s₀ s n i u l = let e : i ≡ n = omega (arith, u.inside) in u.words �
 
 -- ---- 1 and 11
 module _ (c : GraphCounts) (room : ℕ) (b : Bool) (g : b ≡ graph_within c) where
-  pub full_1 : b ≡ false → 1 ≡ full_number c room
+  pub full_1 : b ≡ false → Err Bounds ≡ done_of (full_number c room)
   unfolding full_number
   full_1 f = sym (rw (sym g ∙ f))
 
   module _ (t : b ≡ true) where
-    pub full_1_room : 16777215 < room → 1 ≡ full_number c room
+    pub full_1_room : 16777215 < room → Err Bounds ≡ done_of (full_number c room)
     unfolding full_number
     full_1_room l = sym (rw (sym g ∙ t, lt-leb room 16777215 l))
 
     module _ (lr : room ≤ 16777215) (n : ℕ) (en : n ≡ endpoints c) where
-      pub full_11 : room < n → 11 ≡ full_number c room
+      pub full_11 : room < n → Err Room ≡ done_of (full_number c room)
       unfolding full_number
       full_11 l = let h : room < endpoints c = omega arith in sym (rw (sym g ∙ t, le-leb room 16777215 lr, lt-leb (endpoints c) room h))
 
-      pub full_0 : n ≤ room → 0 ≡ full_number c room
+      pub full_0 : n ≤ room → Ok tt ≡ done_of (full_number c room)
       unfolding full_number
       full_0 l = let h : endpoints c ≤ room = omega arith in sym (rw (sym g ∙ t, le-leb room 16777215 lr, le-leb (endpoints c) room h))
 
@@ -84,32 +88,35 @@ endpoints_few c e =
     let w = within_few (c.pins ≤? 16777215) (c.outputs ≤? 1048576) (c.dffs ≤? 1048576) (c.rams ≤? 1048576) e in
     omega (arith, leb-true c.outputs 1048576 w.0, leb-true c.dffs 1048576 w.1, leb-true c.rams 1048576 w.2)
 
-pub full_sound : (c : GraphCounts) (room k : ℕ) → k ≡ full_number c room → k ≡ 0 → FullSound c room
+pub full_sound : (c : GraphCounts) (room : ℕ) → full_number c room ≡ 0 → FullSound c room
 unfolding full_number
-full_sound c room k e z =
-    let n = or_zero (refuse 1 (graph_within c && (room ≤? 16777215))) (refuse 11 (endpoints c ≤? room)) (sym e ∙ z) in
+full_sound c room z =
+    let n = or_zero (refuse 1 (graph_within c && (room ≤? 16777215))) (refuse 11 (endpoints c ≤? room)) z in
     record {
       few = endpoints_few c (and_l (graph_within c) (room ≤? 16777215) (last_refused 0 (graph_within c && (room ≤? 16777215)) n.0));
       fits = leb-true (endpoints c) room (last_refused 10 (endpoints c ≤? room) n.1);
     }
 
--- ---- the answer: z is the table zeroed, k the number
-module _ (c : GraphCounts) (t z : List ℕ) (ez : z ≡ zeros (length t)) (k : ℕ) (ek : k ≡ full_number c (length z)) where
-  number_is : full_number c (length t) ≡ k
-  number_is = ap (full_number c) (sym (ap length ez ∙ zeros-length (length t))) ∙ sym ek
+-- ---- the answer: z is the table zeroed
+module _ (c : GraphCounts) (t z : List ℕ) (ez : z ≡ zeros (length t)) where
+  zeroed-length : length z ≡ length t
+  zeroed-length = ap length ez ∙ zeros-length (length t)
 
   pub full_zeroed : z ≡ zeros (length z)
-  full_zeroed = ez ∙ ap zeros (sym (ap length ez ∙ zeros-length (length t)))
+  full_zeroed = ez ∙ ap zeros (sym zeroed-length)
 
-  pub full_refused : (k ≡ 0 → ⊥) → FullStaged c t z (Refused k)
-  full_refused n = nonzero k n (λ j q. record {
-    answer = ap Refused q ∙ sym (ap (λ (x : ℕ). parted_of x (full_stage (endpoints c))) (number_is ∙ q));
-    taken = ez ∙ sym (ap (λ (x : ℕ). held x (upto (endpoints c)) (length t)) (number_is ∙ q));
-  })
+  pub full_refused : (e : Refusal) → Err e ≡ done_of (full_number c (length z)) → FullStaged c t z (Err e)
+  full_refused e r = let k = rw zeroed-length at r in record {
+    answer = refused_too (full_number c (length t)) (stage_size (full_stage (endpoints c))) e k;
+    taken = ez ∙ held_none (full_number c (length t)) (upto (endpoints c)) (length t) e k;
+  }
 
-  module _ (y : k ≡ 0) where
+  module _ (u : Unit {0}) (y : Ok u ≡ done_of (full_number c (length z))) where
+    none : full_number c (length z) ≡ 0
+    none = number_zero (full_number c (length z)) u tt y
+
     sound : FullSound c (length z)
-    sound = full_sound c (length z) k ek y
+    sound = full_sound c (length z) none
 
     pub full_fits : (n : ℕ) → n ≡ endpoints c → n ≤ length z
     full_fits n en = omega (arith, sound.fits)
@@ -117,8 +124,11 @@ module _ (c : GraphCounts) (t z : List ℕ) (ez : z ≡ zeros (length t)) (k : �
     pub full_few : (n : ℕ) → n ≡ endpoints c → n ≤ 3145728
     full_few n en = omega (arith, sound.few)
 
-    pub full_made : (t' : List ℕ) (n : ℕ) → n ≡ endpoints c → t' ≡ filled (upto n) (length z) → FullStaged c t t' (Stage 0 n)
-    full_made t' n en et = record {
-      answer = ap (Stage 0) (en ∙ sym (length-upto (endpoints c))) ∙ sym (ap (λ (x : ℕ). parted_of x (full_stage (endpoints c))) (number_is ∙ y));
-      taken = et ∙ (λ i. filled (upto (en i)) ((ap length ez ∙ zeros-length (length t)) i)) ∙ sym (ap (λ (x : ℕ). held x (upto (endpoints c)) (length t)) (number_is ∙ y));
+    pub full_made : (t' : List ℕ) (n : ℕ) → n ≡ endpoints c → t' ≡ filled (upto n) (length z) → FullStaged c t t' (Ok (record { handed = 0; taken = n }))
+    full_made t' n en et = let k : full_number c (length t) ≡ 0 = rw zeroed-length at none in record {
+      answer = answered (full_number c (length t)) _ _ k (ap (λ (x : ℕ). size x) (en ∙ sym (length-upto (endpoints c))));
+      taken = et ∙ (λ i. filled (upto (en i)) (zeroed-length i)) ∙ sym (ap (λ (x : ℕ). held x (upto (endpoints c)) (length t)) k);
     }
+      where
+        size : ℕ → StageSize
+        size x = record { handed = 0; taken = x }

@@ -7,7 +7,8 @@ use native.Mathlib.Numerals.{add-one}
 use native.Mathlib.Omega.{arith}
 use lib.ListN.{length, get_or, take, drop, set, length-set, length-map, length-drop}
 use lib.Seq.{drop-cons, drop-length, take_all, get_or-drop, length-take-le}
-use borrow.Author.Tests.{le-leb, lt-leb, le-ltb, lt-ltb, leb-true, ltb-true, ltb-false}
+use borrow.Author.Tests.{le-leb, lt-leb, le-ltb, leb-true, ltb-true, ltb-false}
+use Rattle.std.specs.Prelude.{Result, Ok, Err}
 use Rattle.laws.specs.Tests.{◌<?◌, ◌≤?◌, or_else, refuse}
 use Rattle.laws.specs.Lists.{keep, every}
 use Rattle.laws.specs.Words.{zeros, filled, part}
@@ -15,14 +16,15 @@ use Rattle.laws.proofs.Tests.{by_test, and_l, and_r, and_both, or_zero, last_ref
 use Rattle.laws.proofs.Bags.{map-append, map_same}
 use Rattle.laws.proofs.Indices.{every_at}
 use Rattle.laws.proofs.Words.{zeros-length, filled_none, filled_more, part_suc, part_none, part_length}
-use Rattle.rules.specs.declared.Parted.{Parted}
-use Rattle.rules.specs.declared.Parted.TheVariants.{Stage as PartedStage, Refused}
+use Rattle.rules.specs.declared.Refusal.{Refusal}
+use Rattle.rules.specs.declared.Refusal.TheVariants.{Bounds, Room, Index}
+use Rattle.rules.specs.declared.StageSize.{StageSize}
 use Rattle.rules.specs.Stages.{Stage, subset}
 use Rattle.rules.specs.Tables.{held}
 use Rattle.rules.specs.Refusals.{below, handed_first}
-use Rattle.rules.specs.Answers.{parted_of, subset_number, stage_fits}
+use Rattle.rules.specs.Answers.{answer_of, done_of, stage_size, subset_number, stage_fits}
+use Rattle.walk.proofs.Answered.{number_zero, answered, refused_too, held_none}
 use Rattle.subsets.specs.Answer.{stage_of, leading, all_from, lists_fit, places_number, placed, Places, Ready, Subsetted}
-use Rattle.subsets.proofs.Full.{nonzero}
 
 -- ---- the loop that finds where they end
 pub leading_le : (h : ℕ) (is : List ℕ) → leading h is ≤ length is
@@ -32,28 +34,6 @@ leading_le h (i ∷ is) = by_test (i <? h) (λ t. rw t (omega (arith, leading_le
 pub record Leading (h : ℕ) (is : List ℕ) (i : ℕ) : Type 0 where
   pub inside : i ≤ length is
   pub so_far : leading h is ≡ i + leading h (drop i is)
-
-pub lead_begins : (h : ℕ) (is : List ℕ) → Leading h is 0
-lead_begins h is = record { inside = omega arith; so_far = omega arith }
-
-module _ (h : ℕ) (is : List ℕ) (i : ℕ) (s : Leading h is i) where
-  next : i < length is → leading h (drop i is) ≡ leading h (get_or is i 0 ∷ drop (suc i) is)
-  next l = ap (leading h) (drop-cons is i 0 l)
-
-  pub lead_goes_on : (p : ℕ) → i < length is → p ≡ get_or is i 0 → p < h → Leading h is (i + 1)
-  lead_goes_on p l q k' = let k : get_or is i 0 < h = omega arith in record {
-    inside = omega arith;
-    so_far =
-        let e : leading h (drop i is) ≡ suc (leading h (drop (suc i) is)) = rw (next l, lt-ltb (get_or is i 0) h k) in
-        omega (arith, s.so_far, ap (λ (n : ℕ). leading h (drop n is)) (add-one i));
-  }
-
-  pub lead_stops : (p : ℕ) → i < length is → p ≡ get_or is i 0 → h ≤ p → i ≡ leading h is
-  lead_stops p l q k' = let k : h ≤ get_or is i 0 = omega arith in let e : leading h (drop i is) ≡ 0 = rw (next l, le-ltb (get_or is i 0) h k) in omega (arith, s.so_far)
-
-  pub lead_ends : length is ≤ i → i ≡ leading h is
-  lead_ends l = let e : i ≡ length is = omega (arith, s.inside) in
-      omega (arith, s.so_far, ap (leading h) (ap (λ (n : ℕ). drop n is) e ∙ drop-length is))
 
 -- ---- the loop that tests the rest
 pub record FromOn (h : ℕ) (is : List ℕ) (a i : ℕ) : Type 0 where
@@ -168,26 +148,7 @@ pub pick_ends : (t is : List ℕ) (a n h : ℕ) (o₀ o : List ℕ) (j : ℕ) �
 pick_ends t is a n h o₀ o j s l = let e : j ≡ n = omega (arith, s.inside) in
     s.words ∙ ap (λ (k : ℕ). filled (placed t h (part is a k)) (length o₀)) e
 
--- ---- 1: the lists and the rooms in turn
-module _ (h t i x y : ℕ) where
-  pub handed_many : 16777215 < h → false ≡ lists_fit h t i x y
-  handed_many l = sym (rw (lt-leb h 16777215 l))
-
-  module _ (lh : h ≤ 16777215) where
-    pub taken_many : 16777215 < t → false ≡ lists_fit h t i x y
-    taken_many l = sym (rw (le-leb h 16777215 lh, lt-leb t 16777215 l))
-
-    module _ (lt : t ≤ 16777215) where
-      pub places_many : 16777215 < i → false ≡ lists_fit h t i x y
-      places_many l = sym (rw (le-leb h 16777215 lh, le-leb t 16777215 lt, lt-leb i 16777215 l))
-
-      module _ (li : i ≤ 16777215) where
-        pub room_many : 16777215 < x → false ≡ lists_fit h t i x y
-        room_many l = sym (rw (le-leb h 16777215 lh, le-leb t 16777215 lt, le-leb i 16777215 li, lt-leb x 16777215 l))
-
-        pub lists_few : x ≤ 16777215 → (y ≤? 16777215) ≡ lists_fit h t i x y
-        lists_few l = sym (rw (le-leb h 16777215 lh, le-leb t 16777215 lt, le-leb i 16777215 li, le-leb x 16777215 l))
-
+-- ---- 1: the lists and the rooms
 pub record Few (h t i x y : ℕ) : Type 0 where
   pub handed : h ≤ 16777215
   pub taken : t ≤ 16777215
@@ -214,7 +175,7 @@ module _ (h t : ℕ) (is : List ℕ) (n x y : ℕ) (en : n ≡ leading h is) whe
   lead_within = omega (arith, leading_le h is)
 
   module _ (b : Bool) (eb : b ≡ below (h + t) is) where
-    pub places_15 : b ≡ false → 15 ≡ places_number h t is x y
+    pub places_15 : b ≡ false → Err Index ≡ done_of (places_number h t is x y)
     unfolding places_number
     places_15 f = sym (rw (sym eb ∙ f))
 
@@ -222,24 +183,24 @@ module _ (h t : ℕ) (is : List ℕ) (n x y : ℕ) (en : n ≡ leading h is) whe
       rest_is : all_from is (leading h is) h ≡ d
       rest_is = ap (λ (k : ℕ). all_from is k h) (sym en) ∙ sym ed
 
-      pub places_15_order : d ≡ false → 15 ≡ places_number h t is x y
+      pub places_15_order : d ≡ false → Err Index ≡ done_of (places_number h t is x y)
       unfolding places_number
       places_15_order f = sym (rw (sym eb ∙ tb, rest_is ∙ f))
 
       module _ (td : d ≡ true) where
-        pub places_11 : x < n → 11 ≡ places_number h t is x y
+        pub places_11 : x < n → Err Room ≡ done_of (places_number h t is x y)
         unfolding places_number
         places_11 l = let q : x < leading h is = omega arith in sym (rw (sym eb ∙ tb, rest_is ∙ td, lt-leb (leading h is) x q))
 
         module _ (lx : n ≤ x) where
-          pub places_11_taken : y < length is - n → 11 ≡ places_number h t is x y
+          pub places_11_taken : y < length is - n → Err Room ≡ done_of (places_number h t is x y)
           unfolding places_number
           places_11_taken l =
               let q : leading h is ≤ x = omega arith in
               let q' : y < length is - leading h is = omega arith in
               sym (rw (sym eb ∙ tb, rest_is ∙ td, le-leb (leading h is) x q, lt-leb (length is - leading h is) y q'))
 
-          pub places_0 : length is - n ≤ y → 0 ≡ places_number h t is x y
+          pub places_0 : length is - n ≤ y → Ok tt ≡ done_of (places_number h t is x y)
           unfolding places_number
           places_0 l =
               let q : leading h is ≤ x = omega arith in
@@ -301,8 +262,8 @@ places_sound h t is x y z =
 
 -- ---- the number in the code's shape
 module _ (hs ts is : List ℕ) (x y : ℕ) (b : Bool) (eb : b ≡ lists_fit (length hs) (length ts) (length is) x y) where
-  pub subset_1 : b ≡ false → 1 ≡ subset_number (stage_of hs ts) is x y
-  subset_1 f = sym (number_early hs ts is x y (sym eb ∙ f))
+  pub subset_1 : b ≡ false → Err Bounds ≡ done_of (subset_number (stage_of hs ts) is x y)
+  subset_1 f = sym (ap done_of (number_early hs ts is x y (sym eb ∙ f)))
 
   module _ (tb : b ≡ true) where
     pub handed_few : length hs ≤ 16777215
@@ -311,8 +272,8 @@ module _ (hs ts is : List ℕ) (x y : ℕ) (b : Bool) (eb : b ≡ lists_fit (len
     pub taken_few : length ts ≤ 16777215
     taken_few = (lists_sound (length hs) (length ts) (length is) x y b eb tb).taken
 
-    pub subset_later : (k : ℕ) → k ≡ places_number (length hs) (length ts) is x y → k ≡ subset_number (stage_of hs ts) is x y
-    subset_later k e = e ∙ sym (number_later hs ts is x y (sym eb ∙ tb))
+    pub subset_later : (r : Result (Unit {0}) Refusal) → r ≡ done_of (places_number (length hs) (length ts) is x y) → r ≡ done_of (subset_number (stage_of hs ts) is x y)
+    subset_later r e = e ∙ sym (ap done_of (number_later hs ts is x y (sym eb ∙ tb)))
 
 pub subset_sound : (hs ts is : List ℕ) (x y : ℕ) → subset_number (stage_of hs ts) is x y ≡ 0
     → (Few (length hs) (length ts) (length is) x y) × (PlacesSound (length hs) (length ts) is x y)
@@ -375,7 +336,7 @@ module _ (hs ts is : List ℕ) (n : ℕ) (h₁ t₁ : List ℕ) (r : Ready (stag
       ∙ sym (halves (length hs) is sound.ordered).1)
 
   pub subset_made : (h₂ t₂ : List ℕ) → h₂ ≡ filled (placed hs 0 (part is 0 n)) (length h₁) → t₂ ≡ filled (placed ts (length hs) (part is n (length is - n))) (length t₁)
-      → Subsetted (stage_of hs ts) is h₁ t₁ h₂ t₂ (PartedStage n (length is - n))
+      → Subsetted (stage_of hs ts) is h₁ t₁ h₂ t₂ (Ok (record { handed = n; taken = length is - n }))
   unfolding all_from
   subset_made h₂ t₂ e₁ e₂ =
       let w = halves_long hs ts is (length h₁) (length t₁) sound.ordered in
@@ -383,38 +344,48 @@ module _ (hs ts is : List ℕ) (n : ℕ) (h₁ t₁ : List ℕ) (r : Ready (stag
       let nl : n ≡ length (subset (stage_of hs ts) is).handed = r.lead ∙ sym w.0 in
       let rl : length is - n ≡ length (subset (stage_of hs ts) is).taken = ap (λ (m : ℕ). length is - m) r.lead ∙ sym w.1 in
       record {
-        answer = (λ i. PartedStage (nl i) (rl i)) ∙ sym (ap (λ (x : ℕ). parted_of x (subset (stage_of hs ts) is)) y);
+        answer = answered (subset_number (stage_of hs ts) is (length h₁) (length t₁)) _ _ y (λ i. record { handed = nl i; taken = rl i });
         handed = e₁ ∙ (λ i. filled (first_part i) (length h₁)) ∙ sym (ap (λ (x : ℕ). held x (subset (stage_of hs ts) is).handed (length h₁)) y);
         taken = e₂ ∙ (λ i. filled (second_part i) (length t₁)) ∙ sym (ap (λ (x : ℕ). held x (subset (stage_of hs ts) is).taken (length t₁)) y);
       }
 
 -- ---- the answer: h₁ and t₁ are the tables zeroed
-module _ (hs ts is h t h₁ t₁ : List ℕ) (eh : h₁ ≡ zeros (length h)) (et : t₁ ≡ zeros (length t))
-    (k : ℕ) (ek : k ≡ subset_number (stage_of hs ts) is (length h₁) (length t₁)) where
+module _ (hs ts is h t h₁ t₁ : List ℕ) (eh : h₁ ≡ zeros (length h)) (et : t₁ ≡ zeros (length t)) where
   hl : length h₁ ≡ length h
   hl = ap length eh ∙ zeros-length (length h)
 
   tl : length t₁ ≡ length t
   tl = ap length et ∙ zeros-length (length t)
 
-  number_at : subset_number (stage_of hs ts) is (length h) (length t) ≡ k
-  number_at = (λ i. subset_number (stage_of hs ts) is (sym hl i) (sym tl i)) ∙ sym ek
+  number_at : subset_number (stage_of hs ts) is (length h₁) (length t₁) ≡ subset_number (stage_of hs ts) is (length h) (length t)
+  number_at = λ i. subset_number (stage_of hs ts) is (hl i) (tl i)
 
-  pub subset-refused : (k ≡ 0 → ⊥) → Subsetted (stage_of hs ts) is h t h₁ t₁ (Refused k)
-  subset-refused n = nonzero k n (λ j q. record {
-    answer = ap Refused q ∙ sym (ap (λ (x : ℕ). parted_of x (subset (stage_of hs ts) is)) (number_at ∙ q));
-    handed = eh ∙ sym (ap (λ (x : ℕ). held x (subset (stage_of hs ts) is).handed (length h)) (number_at ∙ q));
-    taken = et ∙ sym (ap (λ (x : ℕ). held x (subset (stage_of hs ts) is).taken (length t)) (number_at ∙ q));
-  })
-
-  pub subset_ready : (n : ℕ) → n ≡ leading (length hs) is → k ≡ 0 → Ready (stage_of hs ts) is n h₁ t₁
-  subset_ready n en z = record { number = sym ek ∙ z; lead = en; inside = omega (arith, leading_le (length hs) is); few = (subset_sound hs ts is (length h₁) (length t₁) (sym ek ∙ z)).0.places; handed_zero = eh ∙ ap zeros (sym hl); taken_zero = et ∙ ap zeros (sym tl) }
-
-  pub subset_picked : (h₂ t₂ : List ℕ) (r : Parted) → Subsetted (stage_of hs ts) is h₁ t₁ h₂ t₂ r → Subsetted (stage_of hs ts) is h t h₂ t₂ r
-  subset_picked h₂ t₂ r a =
-      let e : subset_number (stage_of hs ts) is (length h₁) (length t₁) ≡ subset_number (stage_of hs ts) is (length h) (length t) = sym ek ∙ sym number_at in
+  pub subset-refused : (e : Refusal) → Err e ≡ done_of (subset_number (stage_of hs ts) is (length h₁) (length t₁)) → Subsetted (stage_of hs ts) is h t h₁ t₁ (Err e)
+  subset-refused e r =
+      let k : ℕ = subset_number (stage_of hs ts) is (length h) (length t) in
+      let q : Err e ≡ done_of k = r ∙ ap done_of number_at in
       record {
-        answer = a.answer ∙ ap (λ (x : ℕ). parted_of x (subset (stage_of hs ts) is)) e;
-        handed = a.handed ∙ (λ i. held (e i) (subset (stage_of hs ts) is).handed (hl i));
-        taken = a.taken ∙ (λ i. held (e i) (subset (stage_of hs ts) is).taken (tl i));
+        answer = refused_too k (stage_size (subset (stage_of hs ts) is)) e q;
+        handed = eh ∙ held_none k (subset (stage_of hs ts) is).handed (length h) e q;
+        taken = et ∙ held_none k (subset (stage_of hs ts) is).taken (length t) e q;
       }
+
+  pub subset_ready : (n : ℕ) → n ≡ leading (length hs) is → (u : Unit {0}) → Ok u ≡ done_of (subset_number (stage_of hs ts) is (length h₁) (length t₁))
+      → Ready (stage_of hs ts) is n h₁ t₁
+  subset_ready n en u y =
+      let z = number_zero (subset_number (stage_of hs ts) is (length h₁) (length t₁)) u tt y in
+      record {
+        number = z;
+        lead = en;
+        inside = omega (arith, leading_le (length hs) is);
+        few = (subset_sound hs ts is (length h₁) (length t₁) z).0.places;
+        handed_zero = eh ∙ ap zeros (sym hl);
+        taken_zero = et ∙ ap zeros (sym tl);
+      }
+
+  pub subset_picked : (h₂ t₂ : List ℕ) (r : Result StageSize Refusal) → Subsetted (stage_of hs ts) is h₁ t₁ h₂ t₂ r → Subsetted (stage_of hs ts) is h t h₂ t₂ r
+  subset_picked h₂ t₂ r a = record {
+    answer = a.answer ∙ ap (λ (x : ℕ). answer_of x (stage_size (subset (stage_of hs ts) is))) number_at;
+    handed = a.handed ∙ (λ i. held (number_at i) (subset (stage_of hs ts) is).handed (hl i));
+    taken = a.taken ∙ (λ i. held (number_at i) (subset (stage_of hs ts) is).taken (tl i));
+  }

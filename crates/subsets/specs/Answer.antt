@@ -1,17 +1,18 @@
 -- What the calls that read no driver answer and leave, and the parts of their numbers as the code tests them.
-use Rattle.std.specs.Prelude.{◌≡◌, Bool, true, ◌&&◌, List, [], ◌∷◌, map, ℕ, suc, ◌+◌, ◌-◌, ◌<◌, ◌≤◌, length, get_or, drop, if◌then◌else◌}
+use Rattle.std.specs.Prelude.{◌≡◌, Result, Bool, true, ◌&&◌, List, [], ◌∷◌, map, ℕ, suc, ◌+◌, ◌-◌, ◌<◌, ◌≤◌, length, get_or, drop, if◌then◌else◌}
 use Rattle.laws.specs.Tests.{◌<?◌, ◌≤?◌, or_else, refuse}
 use Rattle.laws.specs.Lists.{every, upto}
 use Rattle.laws.specs.Words.{zeros}
 use Rattle.rules.specs.declared.Endpoint.{Endpoint}
 use Rattle.rules.specs.declared.Endpoint.TheVariants.{Handed}
 use Rattle.rules.specs.declared.GraphCounts.{GraphCounts}
-use Rattle.rules.specs.declared.Parted.{Parted}
+use Rattle.rules.specs.declared.Refusal.{Refusal}
+use Rattle.rules.specs.declared.StageSize.{StageSize}
 use Rattle.rules.specs.Bounds.{max_list, graph_within}
 use Rattle.rules.specs.Stages.{Stage, endpoint_by, full_stage, subset}
 use Rattle.rules.specs.Tables.{held}
 use Rattle.rules.specs.Refusals.{below}
-use Rattle.rules.specs.Answers.{endpoints, parted_of, full_number, subset_number}
+use Rattle.rules.specs.Answers.{answer_of, stage_size, endpoints, full_number, subset_number}
 
 abbrev pub stage_of : List ℕ → List ℕ → Stage
 stage_of handed taken = record { handed = handed; taken = taken }
@@ -35,8 +36,8 @@ staged_by c s i =
     else endpoint_by c.outputs c.dffs (get_or s.taken (i - length s.handed) 0)
 
 -- ---- the whole graph as one stage: t is the table as it was lent, t' as it comes back
-pub record FullStaged (c : GraphCounts) (t t' : List ℕ) (r : Parted) : Type 0 where
-  pub answer : r ≡ parted_of (full_number c (length t)) (full_stage (endpoints c))
+pub record FullStaged (c : GraphCounts) (t t' : List ℕ) (r : Result StageSize Refusal) : Type 0 where
+  pub answer : r ≡ answer_of (full_number c (length t)) (stage_size (full_stage (endpoints c)))
   pub taken : t' ≡ held (full_number c (length t)) (upto (endpoints c)) (length t)
 
 -- ---- a subset: the number as the code tests it
@@ -68,8 +69,8 @@ abbrev pub placed : List ℕ → ℕ → List ℕ → List ℕ
 placed t h is = map (λ i. get_or t (i - h) 0) is
 
 -- h and t are the tables as they were lent, h' and t' as they come back
-pub record Subsetted (s : Stage) (is h t h' t' : List ℕ) (r : Parted) : Type 0 where
-  pub answer : r ≡ parted_of (subset_number s is (length h) (length t)) (subset s is)
+pub record Subsetted (s : Stage) (is h t h' t' : List ℕ) (r : Result StageSize Refusal) : Type 0 where
+  pub answer : r ≡ answer_of (subset_number s is (length h) (length t)) (stage_size (subset s is))
   pub handed : h' ≡ held (subset_number s is (length h) (length t)) (subset s is).handed (length h)
   pub taken : t' ≡ held (subset_number s is (length h) (length t)) (subset s is).taken (length t)
 

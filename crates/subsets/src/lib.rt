@@ -6,10 +6,10 @@ ghost use Rattle.laws.specs.Lists.{upto};
 ghost use Rattle.laws.specs.Words.{zeros, filled, part};
 ghost use Rattle.rules.specs.Bounds.{graph_within};
 ghost use Rattle.rules.specs.Stages.{endpoint_by};
-ghost use Rattle.rules.specs.Answers.{endpoints, found_of, endpoint_number, full_number, subset_number};
+ghost use Rattle.rules.specs.Answers.{answer_of, done_of, endpoints, endpoint_number, full_number, subset_number};
 ghost use Rattle.subsets.specs.Answer.{stage_of, staged_there, staged_number, staged_by, leading, all_from, lists_fit, places_number, placed, Places, Ready, FullStaged, Subsetted};
 
-use rules::{Endpoint, Found, GraphCounts, Parted};
+use rules::{Endpoint, GraphCounts, Refusal, StageSize};
 use walk::given::all_below;
 use words::{word, zero};
 
@@ -24,16 +24,7 @@ pub fn num_endpoint_groups(c: GraphCounts) -> usize
 pub fn counts_fit(c: GraphCounts) -> bool
     ensures { result ≡ graph_within c }
 {
-    if 16777215 < c.pins {
-        return false;
-    }
-    if 1048576 < c.outputs {
-        return false;
-    }
-    if 1048576 < c.dffs {
-        return false;
-    }
-    c.rams <= 1048576
+    c.pins <= 16777215 && c.outputs <= 1048576 && c.dffs <= 1048576 && c.rams <= 1048576
 }
 
 // The endpoint of a number below the count.
@@ -51,17 +42,17 @@ fn endpoint_by(c: GraphCounts, e: u32) -> Endpoint
 }
 
 // An endpoint of a graph by its number.
-pub fn get_endpoint_group(c: GraphCounts, e: u32) -> Found
-    ensures { result ≡ found_of (endpoint_number c e) (endpoint_by c.outputs c.dffs e) }
+pub fn get_endpoint_group(c: GraphCounts, e: u32) -> Result<Endpoint, Refusal>
+    ensures { result ≡ answer_of (endpoint_number c e) (endpoint_by c.outputs c.dffs e) }
 {
     if !counts_fit(c) {
-        return Found::Refused(1);
+        return Err(Refusal::Bounds);
     }
     let n = num_endpoint_groups(c);
     if n <= (e as usize) {
-        return Found::Refused(15);
+        return Err(Refusal::Index);
     }
-    Found::At(endpoint_by(c, e))
+    Ok(endpoint_by(c, e))
 }
 
 // Does a place of a stage name a handed-on pin, or an endpoint that is taken and is one of the graph?
@@ -72,12 +63,7 @@ fn is_there(c: GraphCounts, handed: usize, taken: &[u32], i: usize) -> bool
         return true;
     }
     let k = i - handed;
-    if taken.len() <= k {
-        return false;
-    }
-    let e = word(taken, k);
-    let n = num_endpoint_groups(c);
-    (e as usize) < n
+    k < taken.len() && (taken[k] as usize) < num_endpoint_groups(c)
 }
 
 // The endpoint at a place that is there.
@@ -93,22 +79,27 @@ fn staged_by(c: GraphCounts, handed: &[u32], taken: &[u32], i: usize) -> Endpoin
 }
 
 // An endpoint of a stage by its place: its handed-on pins, then the endpoints that it takes.
-pub fn staged_endpoint_group(c: GraphCounts, handed: &[u32], taken: &[u32], i: usize) -> Found
-    ensures { result ≡ found_of (staged_number c (stage_of handed.now taken.now) i) (staged_by c (stage_of handed.now taken.now) i) }
+pub fn staged_endpoint_group(
+    c: GraphCounts,
+    handed: &[u32],
+    taken: &[u32],
+    i: usize,
+) -> Result<Endpoint, Refusal>
+    ensures { result ≡ answer_of (staged_number c (stage_of handed.now taken.now) i) (staged_by c (stage_of handed.now taken.now) i) }
 {
     if !counts_fit(c) {
-        return Found::Refused(1);
+        return Err(Refusal::Bounds);
     }
     if 16777215 < handed.len() {
-        return Found::Refused(1);
+        return Err(Refusal::Bounds);
     }
     if 16777215 < taken.len() {
-        return Found::Refused(1);
+        return Err(Refusal::Bounds);
     }
     if !is_there(c, handed.len(), taken, i) {
-        return Found::Refused(15);
+        return Err(Refusal::Index);
     }
-    Found::At(staged_by(c, handed, taken, i))
+    Ok(staged_by(c, handed, taken, i))
 }
 
 // The numbers below n, upward, into words that are 0.
@@ -118,58 +109,52 @@ pub fn count_up(to: &mut [u32], n: usize)
     requires n_bound { n ≤ 3145728 }
     ensures { to.new ≡ filled (upto n) (length to.old) }
 {
-    let mut i = 0;
-    while i < n {
+    for i in 0..n {
         to[i] = i as u32;
-        i += 1;
     }
 }
 
 // 1 and 11 of the whole graph as one stage.
-fn full_number(c: GraphCounts, room: usize) -> u32
-    ensures { result ≡ full_number c room }
+fn test_full(c: GraphCounts, room: usize) -> Result<(), Refusal>
+    ensures { result ≡ done_of (full_number c room) }
 {
     if !counts_fit(c) {
-        return 1;
+        return Err(Refusal::Bounds);
     }
     if 16777215 < room {
-        return 1;
+        return Err(Refusal::Bounds);
     }
     let n = num_endpoint_groups(c);
     if room < n {
-        return 11;
+        return Err(Refusal::Room);
     }
-    0
+    Ok(())
 }
 
 // The whole graph as one stage: it takes every endpoint and hands nothing on.
-pub fn from_full_aig(c: GraphCounts, taken: &mut [u32]) -> Parted
+pub fn from_full_aig(c: GraphCounts, taken: &mut [u32]) -> Result<StageSize, Refusal>
     ensures { FullStaged c taken.old taken.new result }
 {
     zero(taken);
-    let k = full_number(c, taken.len());
-    if k != 0 {
-        return Parted::Refused(k);
-    }
+    test_full(c, taken.len())?;
     let n = num_endpoint_groups(c);
     count_up(taken, n);
-    let count = n as u32;
-    Parted::Stage(0, count)
+    Ok(StageSize {
+        handed: 0,
+        taken: n as u32,
+    })
 }
 
 // How many places before the first that is not below h.
 fn leading_places(is: &[u32], h: usize) -> usize
     ensures { result ≡ leading h is.now }
 {
-    let mut i = 0;
-    while i < is.len() {
-        let p = word(is, i);
+    for (i, &p) in is.iter().enumerate() {
         if h <= (p as usize) {
             return i;
         }
-        i += 1;
     }
-    i
+    is.len()
 }
 
 // Is each word from a place on at least h?
@@ -177,13 +162,11 @@ fn all_from(is: &[u32], a: usize, h: usize) -> bool
     requires { a ≤ length is.now }
     ensures { result ≡ all_from is.now a h }
 {
-    let mut i = a;
-    while i < is.len() {
+    for i in a..is.len() {
         let p = word(is, i);
         if (p as usize) < h {
             return false;
         }
-        i += 1;
     }
     true
 }
@@ -192,68 +175,60 @@ fn all_from(is: &[u32], a: usize, h: usize) -> bool
 fn lists_fit(handed: usize, taken: usize, is: usize, handed_room: usize, taken_room: usize) -> bool
     ensures { result ≡ lists_fit handed taken is handed_room taken_room }
 {
-    if 16777215 < handed {
-        return false;
-    }
-    if 16777215 < taken {
-        return false;
-    }
-    if 16777215 < is {
-        return false;
-    }
-    if 16777215 < handed_room {
-        return false;
-    }
-    taken_room <= 16777215
+    handed <= 16777215
+        && taken <= 16777215
+        && is <= 16777215
+        && handed_room <= 16777215
+        && taken_room <= 16777215
 }
 
 // 15 and 11 of a subset, where the first n places are those of handed-on pins.
-fn places_number(
+fn test_places(
     handed: usize,
     taken: usize,
     is: &[u32],
     n: usize,
     handed_room: usize,
     taken_room: usize,
-) -> u32
+) -> Result<(), Refusal>
     requires n_value { n ≡ leading handed is.now }
     requires handed_bound { handed ≤ 16777215 }
     requires taken_bound { taken ≤ 16777215 }
-    ensures { result ≡ places_number handed taken is.now handed_room taken_room }
+    ensures { result ≡ done_of (places_number handed taken is.now handed_room taken_room) }
 {
     let past = handed + taken;
     let rest = is.len() - n;
     if !all_below(is, past) {
-        return 15;
+        return Err(Refusal::Index);
     }
     if !all_from(is, n, handed) {
-        return 15;
+        return Err(Refusal::Index);
     }
     if handed_room < n {
-        return 11;
+        return Err(Refusal::Room);
     }
     if taken_room < rest {
-        return 11;
+        return Err(Refusal::Room);
     }
-    0
+    Ok(())
 }
 
-// The number of a subset.
-fn subset_number(
+// 1, 15 and 11 of a subset.
+fn test_subset(
     handed: &[u32],
     taken: &[u32],
     is: &[u32],
     n: usize,
     handed_room: usize,
     taken_room: usize,
-) -> u32
+) -> Result<(), Refusal>
     requires { n ≡ leading (length handed.now) is.now }
-    ensures { result ≡ subset_number (stage_of handed.now taken.now) is.now handed_room taken_room }
+    ensures { result ≡ done_of (subset_number (stage_of handed.now taken.now) is.now handed_room taken_room) }
 {
     if !lists_fit(handed.len(), taken.len(), is.len(), handed_room, taken_room) {
-        return 1;
+        return Err(Refusal::Bounds);
     }
-    places_number(handed.len(), taken.len(), is, n, handed_room, taken_room)
+    test_places(handed.len(), taken.len(), is, n, handed_room, taken_room)
 }
 
 // What stands in a table at n places less h, into words that are 0.
@@ -263,12 +238,10 @@ fn pick(table: &[u32], is: &[u32], a: usize, n: usize, h: usize, to: &mut [u32])
     requires n_in_bounds { n ≤ length to.old }
     ensures { to.new ≡ filled (placed table.now h (part is.now a n)) (length to.old) }
 {
-    let mut j = 0;
-    while j < n {
+    for j in 0..n {
         let p = word(is, a + j);
         let i = (p as usize) - h;
         to[j] = word(table, i);
-        j += 1;
     }
 }
 
@@ -280,17 +253,18 @@ fn pick_both(
     n: usize,
     handed_out: &mut [u32],
     taken_out: &mut [u32],
-) -> Parted
+) -> Result<StageSize, Refusal>
     requires { Ready (stage_of handed.now taken.now) subset.now n handed_out.old taken_out.old }
     ensures { Subsetted (stage_of handed.now taken.now) subset.now handed_out.old taken_out.old handed_out.new taken_out.new result }
 {
     let h = handed.len();
     let rest = subset.len() - n;
-    let first = n as u32;
-    let second = rest as u32;
     pick(handed, subset, 0, n, 0, handed_out);
     pick(taken, subset, n, rest, h, taken_out);
-    Parted::Stage(first, second)
+    Ok(StageSize {
+        handed: n as u32,
+        taken: rest as u32,
+    })
 }
 
 // A subset of a stage by a list of places: it keeps order and allows repeats.
@@ -300,15 +274,12 @@ pub fn to_endpoint_subset(
     subset: &[u32],
     handed_out: &mut [u32],
     taken_out: &mut [u32],
-) -> Parted
+) -> Result<StageSize, Refusal>
     ensures { Subsetted (stage_of handed.now taken.now) subset.now handed_out.old taken_out.old handed_out.new taken_out.new result }
 {
     zero(handed_out);
     zero(taken_out);
     let n = leading_places(subset, handed.len());
-    let k = subset_number(handed, taken, subset, n, handed_out.len(), taken_out.len());
-    if k != 0 {
-        return Parted::Refused(k);
-    }
+    test_subset(handed, taken, subset, n, handed_out.len(), taken_out.len())?;
     pick_both(handed, taken, subset, n, handed_out, taken_out)
 }

@@ -2,17 +2,15 @@
 use mathlib.Core.Path.{◌≡◌, refl, ap, ◌∙◌}
 use mathlib.Core.Bool.{Bool, true, false}
 use mathlib.Core.List.{List, [], ◌∷◌, ◌++◌}
-use Prim.Native.Nat.{ℕ, ◌+◌, ◌-◌, ◌≤◌, ◌<◌}
+use Prim.Native.Nat.{ℕ, ◌+◌, ◌-◌, ◌<◌}
 use native.Mathlib.Omega.{arith}
 use lib.ListN.{length, length-append}
 use Rattle.std.specs.Prelude.{if◌then◌else◌}
 use Rattle.laws.specs.Tests.{one}
 use Rattle.laws.specs.Lists.{keep}
-use Rattle.laws.proofs.Tests.{one_le}
 use Rattle.laws.proofs.Bags.{keep_append}
 use Rattle.rules.specs.declared.Driver.{Driver}
 use Rattle.rules.specs.declared.Record.{Record}
-use Rattle.rules.specs.declared.Tally.{Tally}
 use Rattle.rules.specs.Graph.{Graph, RamRow}
 use Rattle.rules.specs.Build.{is_gate, gate_count, tally}
 use Rattle.tallies.specs.Counted.{gates_of, pin_counted, output_counted, dff_counted, ram_counted}
@@ -46,11 +44,3 @@ module _ (ds : List Driver) (os : List ℕ) (fs : List Record) (rs : List RamRow
 
   pub ram_tallied : (r : RamRow) → tally (graph ds os fs (rs ++ (r ∷ []))) ≡ ram_counted (tally (graph ds os fs rs))
   ram_tallied r = λ i. record { pins = length ds - 1; gates = gate_count ds; outputs = length os; dffs = length fs; rams = length-append rs (r ∷ []) i }
-
--- a sum with a gate's bit fits, and is the gates counted
-pub bit_small : (k : ℕ) (d : Driver) → k ≡ gates_of d → k ≤ 1
-bit_small k d e = omega (arith, e, one_le (is_gate d))
-
-pub pin_counted_lem : (t : Tally) (d : Driver) (k : ℕ) → k ≡ gates_of d
-    → ◌≡◌ {A = Tally} (record { pins = t.pins + 1; gates = t.gates + k; outputs = t.outputs; dffs = t.dffs; rams = t.rams }) (pin_counted d t)
-pin_counted_lem t d k e = ap (λ (g : ℕ). record { pins = t.pins + 1; gates = t.gates + g; outputs = t.outputs; dffs = t.dffs; rams = t.rams }) e

@@ -10,14 +10,7 @@ use rules::{Driver, Tally};
 fn gates_of(d: Driver) -> u32
     ensures { result ≡ Rattle.tallies.specs.Counted.gates_of d }
 {
-    match d {
-        Driver::And(_, _) => 1,
-        Driver::Port(_) => 0,
-        Driver::Flag(_, _) => 0,
-        Driver::Dff(_) => 0,
-        Driver::Ram(_) => 0,
-        Driver::Constant => 0,
-    }
+    u32::from(matches!(d, Driver::And(_, _)))
 }
 
 // A pin is made with this driver.
@@ -26,13 +19,10 @@ pub fn pin_made(t: Tally, d: Driver) -> Tally
     requires gates_le_pins { t.gates ≤ t.pins }
     ensures { result ≡ pin_counted d t }
 {
-    let more = gates_of(d);
     Tally {
         pins: t.pins + 1,
-        gates: t.gates + more,
-        outputs: t.outputs,
-        dffs: t.dffs,
-        rams: t.rams,
+        gates: t.gates + gates_of(d),
+        ..t
     }
 }
 
@@ -42,11 +32,8 @@ pub fn output_made(t: Tally) -> Tally
     ensures { result ≡ output_counted t }
 {
     Tally {
-        pins: t.pins,
-        gates: t.gates,
         outputs: t.outputs + 1,
-        dffs: t.dffs,
-        rams: t.rams,
+        ..t
     }
 }
 
@@ -56,11 +43,8 @@ pub fn dff_made(t: Tally) -> Tally
     ensures { result ≡ dff_counted t }
 {
     Tally {
-        pins: t.pins,
-        gates: t.gates,
-        outputs: t.outputs,
         dffs: t.dffs + 1,
-        rams: t.rams,
+        ..t
     }
 }
 
@@ -70,10 +54,7 @@ pub fn ram_made(t: Tally) -> Tally
     ensures { result ≡ ram_counted t }
 {
     Tally {
-        pins: t.pins,
-        gates: t.gates,
-        outputs: t.outputs,
-        dffs: t.dffs,
         rams: t.rams + 1,
+        ..t
     }
 }

@@ -1,5 +1,5 @@
 -- Numbers and counts as they are told, and the tables that stay or are 0.
-use mathlib.Core.Path.{◌≡◌, refl, sym, ap, subst, ◌∙◌}
+use mathlib.Core.Path.{◌≡◌, refl, sym, ap, ◌∙◌}
 use mathlib.Core.List.{List, [], ◌∷◌}
 use Prim.Native.Nat.{ℕ, zero, suc, ◌<◌, ◌≤◌}
 use native.Mathlib.Omega.{arith}
@@ -12,7 +12,7 @@ use Rattle.laws.proofs.Tests.{by_test}
 use Rattle.laws.proofs.Words.{zeros-length, filled_none, filled_more}
 use Rattle.rules.specs.Tables.{held}
 use Rattle.tells.specs.declared.Told.{Told}
-use Rattle.tells.specs.Telling.{told_number, told_counts, Tells, kept, TellsOne, TellsTwo, TellsThree}
+use Rattle.tells.specs.Telling.{told_number, told_counts, Tells, kept}
 
 -- ---- the number
 pub told_1 : (room k : ℕ) → k ≡ 1 → 1 ≡ told_number room k
@@ -48,10 +48,6 @@ pub kept-held : (r k : ℕ) (ws a : List ℕ) (room : ℕ) → (r ≡ 0 → k �
 kept-held zero k ws a room f e l = e ∙ ap (λ (x : ℕ). held x ws room) (f refl)
 kept-held (suc r) k ws a room f e l = ap zeros l
 
-kept-zeros : (k : ℕ) (a : List ℕ) → (k ≡ 0 → ⊥) → zeros (length a) ≡ kept k a
-kept-zeros zero a n = absurd (n refl)
-kept-zeros (suc k) a n = refl
-
 -- ---- the counts
 pub three-put : (ws : List ℕ) (a b c : ℕ) → ws ≡ zeros (length ws) → 3 ≤ length ws → set (set (set ws 0 a) 1 b) 2 c ≡ filled (a ∷ b ∷ c ∷ []) (length ws)
 three-put ws a b c z l =
@@ -81,27 +77,8 @@ module _ (t : Told) (n n₁ : List ℕ) (k : ℕ) (ez : n₁ ≡ zeros (length n
     pub tell_roomy : 3 ≤ length n₁
     tell_roomy = (told-both (length n₁) t.number (sym ek ∙ z)).1
 
-    pub tell_done : (n₂ : List ℕ) → n₂ ≡ filled (t.first ∷ t.second ∷ t.third ∷ []) (length n₁) → Tells t n n₂ 0
-    tell_done n₂ e = record { answer = sym z ∙ number_is; counts = e ∙ ap (filled (told_counts t)) long }
-
--- ---- with results
-module _ (t : Told) (a n n' : List ℕ) (k : ℕ) (q : Tells t n n' k) where
-  pub one_done : k ≡ 0 → TellsOne t a n a n' 0
-  one_done z = record { tells = subst (Tells t n n') z q; first = refl }
-
-  pub one-refused : (a' : List ℕ) → (k ≡ 0 → ⊥) → a' ≡ zeros (length a) → TellsOne t a n a' n' k
-  one-refused a' f e = record { tells = q; first = e ∙ kept-zeros k a f }
-
-module _ (t : Told) (a b n a' n' : List ℕ) (k : ℕ) (q : TellsOne t a n a' n' k) where
-  pub two_done : k ≡ 0 → TellsTwo t a b n a' b n' 0
-  two_done z = record { tells = subst (TellsOne t a n a' n') z q; second = refl }
-
-  pub two_refused : (b' : List ℕ) → (k ≡ 0 → ⊥) → b' ≡ zeros (length b) → TellsTwo t a b n a' b' n' k
-  two_refused b' f e = record { tells = q; second = e ∙ kept-zeros k b f }
-
-module _ (t : Told) (a b c n a' b' n' : List ℕ) (k : ℕ) (q : TellsTwo t a b n a' b' n' k) where
-  pub three_done : k ≡ 0 → TellsThree t a b c n a' b' c n' 0
-  three_done z = record { tells = subst (TellsTwo t a b n a' b' n') z q; third = refl }
-
-  pub three-refused : (c' : List ℕ) → (k ≡ 0 → ⊥) → c' ≡ zeros (length c) → TellsThree t a b c n a' b' c' n' k
-  three-refused c' f e = record { tells = q; third = e ∙ kept-zeros k c f }
+    pub tell_done : (n₂ : List ℕ) → n₂ ≡ filled (t.first ∷ t.second ∷ t.third ∷ []) (length n₁) → Tells t n n₂ k
+    tell_done n₂ e = record {
+      answer = number_is;
+      counts = e ∙ ap (filled (told_counts t)) long ∙ sym (ap (λ (x : ℕ). held x (told_counts t) (length n)) z);
+    }

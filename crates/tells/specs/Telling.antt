@@ -1,43 +1,36 @@
 -- What a caller in C is told of an answer: its number, and three counts.
-use Rattle.std.specs.Prelude.{◌≡◌, List, [], ◌∷◌, ℕ, zero, suc, length, if◌then◌else◌, ◌==◌}
+use Rattle.std.specs.Prelude.{◌≡◌, Result, Ok, Err, List, [], ◌∷◌, ℕ, zero, suc, length, if◌then◌else◌, ◌==◌}
 use Rattle.laws.specs.Tests.{◌≤?◌, or_else, refuse}
 use Rattle.laws.specs.Words.{zeros}
-use Rattle.rules.specs.declared.Done.{Done}
-use Rattle.rules.specs.declared.Done.TheVariants.{Accepted, Refused as DoneRefused}
 use Rattle.rules.specs.declared.Endpoint.{Endpoint}
 use Rattle.rules.specs.declared.Endpoint.TheVariants.{Output, Flop, Memory, Handed}
-use Rattle.rules.specs.declared.Found.{Found}
-use Rattle.rules.specs.declared.Found.TheVariants.{At, Refused as FoundRefused}
-use Rattle.rules.specs.declared.Listed.{Listed}
-use Rattle.rules.specs.declared.Listed.TheVariants.{Pins, Refused as ListedRefused}
-use Rattle.rules.specs.declared.Parted.{Parted}
-use Rattle.rules.specs.declared.Parted.TheVariants.{Stage, Refused as PartedRefused}
-use Rattle.rules.specs.declared.Read.{Read}
-use Rattle.rules.specs.declared.Read.TheVariants.{Pin, Refused as ReadRefused}
-use Rattle.rules.specs.declared.Staged.{Staged}
-use Rattle.rules.specs.declared.Staged.TheVariants.{Stages, Refused as StagedRefused}
+use Rattle.rules.specs.declared.Refusal.{Refusal}
+use Rattle.rules.specs.declared.StageSize.{StageSize}
+use Rattle.rules.specs.declared.StagesSize.{StagesSize}
 use Rattle.rules.specs.Tables.{held}
+use Rattle.rules.specs.Answers.{number_of}
 use Rattle.tells.specs.declared.Told.{Told}
 
 -- ---- the number and the counts of each case
-abbrev pub done_number : Done → ℕ
-done_number Accepted = 0
-done_number (DoneRefused k) = k
+abbrev pub done_number : Result (Unit {0}) Refusal → ℕ
+done_number (Ok u) = 0
+done_number (Err e) = number_of e
 
-abbrev refused : ℕ → Told
-refused k = record { number = k; first = 0; second = 0; third = 0 }
+abbrev pub refused : Refusal → Told
+refused e = record { number = number_of e; first = 0; second = 0; third = 0 }
 
-abbrev pub listed_told : Listed → Told
-listed_told (Pins n) = record { number = 0; first = n; second = 0; third = 0 }
-listed_told (ListedRefused k) = refused k
+-- a pin, or how many pins
+abbrev pub word_told : Result ℕ Refusal → Told
+word_told (Ok n) = record { number = 0; first = n; second = 0; third = 0 }
+word_told (Err e) = refused e
 
-abbrev pub parted_told : Parted → Told
-parted_told (Stage handed taken) = record { number = 0; first = handed; second = taken; third = 0 }
-parted_told (PartedRefused k) = refused k
+abbrev pub stage_told : Result StageSize Refusal → Told
+stage_told (Ok s) = record { number = 0; first = s.handed; second = s.taken; third = 0 }
+stage_told (Err e) = refused e
 
-abbrev pub staged_told : Staged → Told
-staged_told (Stages rows handed taken) = record { number = 0; first = rows; second = handed; third = taken }
-staged_told (StagedRefused k) = refused k
+abbrev pub stages_told : Result StagesSize Refusal → Told
+stages_told (Ok s) = record { number = 0; first = s.stages; second = s.handed; third = s.taken }
+stages_told (Err e) = refused e
 
 -- an endpoint: 0 output, 1 flip-flop, 2 RAM, 3 handed-on pin; then its place, or the pin
 abbrev pub end_case : Endpoint → ℕ
@@ -52,13 +45,9 @@ end_index (Flop k) = k
 end_index (Memory k) = k
 end_index (Handed p) = p
 
-abbrev pub found_told : Found → Told
-found_told (At e) = record { number = 0; first = end_case e; second = end_index e; third = 0 }
-found_told (FoundRefused k) = refused k
-
-abbrev pub read_told : Read → Told
-read_told (Pin p) = record { number = 0; first = p; second = 0; third = 0 }
-read_told (ReadRefused k) = refused k
+abbrev pub endpoint_told : Result Endpoint Refusal → Told
+endpoint_told (Ok e) = record { number = 0; first = end_case e; second = end_index e; third = 0 }
+endpoint_told (Err e) = refused e
 
 -- ---- 2 where fewer than three words are lent for the counts, in document 01's place: after 1, and before what follows
 unfoldable pub told_number : ℕ → ℕ → ℕ

@@ -3,13 +3,13 @@
 
 ghost use Rattle.std.specs.Prelude.{◌≡◌, [], ◌∷◌, ◌≤◌, length};
 ghost use Rattle.laws.specs.Words.{zeros, filled};
-ghost use Rattle.tells.specs.Telling.{done_number, listed_told, parted_told, staged_told, end_case, end_index, found_told, read_told, told_number, Tells, TellsOne, TellsTwo, TellsThree};
+ghost use Rattle.tells.specs.Telling.{done_number, refused, word_told, stage_told, stages_told, end_case, end_index, endpoint_told, told_number, Tells, TellsOne, TellsTwo, TellsThree};
 
-use rules::{Done, Endpoint, Found, Listed, Parted, Read, Staged};
+use rules::{Endpoint, Refusal, StageSize, StagesSize};
 use words::zero;
 
 // The number, 0 for success, and the counts; those that an answer does not have are 0.
-#[derive(Drop)]
+#[derive(Clone, Copy)]
 pub struct Told {
     pub number: u32,
     pub first: u32,
@@ -17,12 +17,12 @@ pub struct Told {
     pub third: u32,
 }
 
-pub fn done_number(r: Done) -> u32
+pub fn done_number(r: Result<(), Refusal>) -> u32
     ensures { result ≡ done_number r }
 {
     match r {
-        Done::Accepted => 0,
-        Done::Refused(k) => k,
+        Ok(()) => 0,
+        Err(e) => e.number(),
     }
 }
 
@@ -30,37 +30,44 @@ fn told_of(number: u32, first: u32, second: u32, third: u32) -> Told
     ensures { result ≡ record { number = number; first = first; second = second; third = third } }
 {
     Told {
-        number: number,
-        first: first,
-        second: second,
-        third: third,
+        number,
+        first,
+        second,
+        third,
     }
 }
 
-pub fn listed_told(r: Listed) -> Told
-    ensures { result ≡ listed_told r }
+fn refused(e: Refusal) -> Told
+    ensures { result ≡ refused e }
+{
+    told_of(e.number(), 0, 0, 0)
+}
+
+// A pin, or how many pins.
+pub fn word_told(r: Result<u32, Refusal>) -> Told
+    ensures { result ≡ word_told r }
 {
     match r {
-        Listed::Pins(n) => told_of(0, n, 0, 0),
-        Listed::Refused(k) => told_of(k, 0, 0, 0),
+        Ok(n) => told_of(0, n, 0, 0),
+        Err(e) => refused(e),
     }
 }
 
-pub fn parted_told(r: Parted) -> Told
-    ensures { result ≡ parted_told r }
+pub fn stage_told(r: Result<StageSize, Refusal>) -> Told
+    ensures { result ≡ stage_told r }
 {
     match r {
-        Parted::Stage(handed, taken) => told_of(0, handed, taken, 0),
-        Parted::Refused(k) => told_of(k, 0, 0, 0),
+        Ok(s) => told_of(0, s.handed, s.taken, 0),
+        Err(e) => refused(e),
     }
 }
 
-pub fn staged_told(r: Staged) -> Told
-    ensures { result ≡ staged_told r }
+pub fn stages_told(r: Result<StagesSize, Refusal>) -> Told
+    ensures { result ≡ stages_told r }
 {
     match r {
-        Staged::Stages(rows, handed, taken) => told_of(0, rows, handed, taken),
-        Staged::Refused(k) => told_of(k, 0, 0, 0),
+        Ok(s) => told_of(0, s.stages, s.handed, s.taken),
+        Err(e) => refused(e),
     }
 }
 
@@ -68,10 +75,10 @@ fn end_case(e: Endpoint) -> u32
     ensures { result ≡ end_case e }
 {
     match e {
-        Endpoint::Output(k) => 0,
-        Endpoint::Flop(k) => 1,
-        Endpoint::Memory(k) => 2,
-        Endpoint::Handed(p) => 3,
+        Endpoint::Output(_) => 0,
+        Endpoint::Flop(_) => 1,
+        Endpoint::Memory(_) => 2,
+        Endpoint::Handed(_) => 3,
     }
 }
 
@@ -79,28 +86,16 @@ fn end_index(e: Endpoint) -> u32
     ensures { result ≡ end_index e }
 {
     match e {
-        Endpoint::Output(k) => k,
-        Endpoint::Flop(k) => k,
-        Endpoint::Memory(k) => k,
-        Endpoint::Handed(p) => p,
+        Endpoint::Output(k) | Endpoint::Flop(k) | Endpoint::Memory(k) | Endpoint::Handed(k) => k,
     }
 }
 
-pub fn found_told(r: Found) -> Told
-    ensures { result ≡ found_told r }
+pub fn endpoint_told(r: Result<Endpoint, Refusal>) -> Told
+    ensures { result ≡ endpoint_told r }
 {
     match r {
-        Found::At(e) => told_of(0, end_case(e), end_index(e), 0),
-        Found::Refused(k) => told_of(k, 0, 0, 0),
-    }
-}
-
-pub fn read_told(r: Read) -> Told
-    ensures { result ≡ read_told r }
-{
-    match r {
-        Read::Pin(p) => told_of(0, p, 0, 0),
-        Read::Refused(k) => told_of(k, 0, 0, 0),
+        Ok(e) => told_of(0, end_case(e), end_index(e), 0),
+        Err(e) => refused(e),
     }
 }
 
@@ -133,11 +128,10 @@ pub fn tell(t: Told, counts: &mut [u32]) -> u32
 {
     zero(counts);
     let k = told_number(counts.len(), t.number);
-    if k != 0 {
-        return k;
+    if k == 0 {
+        put_three(counts, t.first, t.second, t.third);
     }
-    put_three(counts, t.first, t.second, t.third);
-    0
+    k
 }
 
 // The same with a result, which is 0 after a refusal: one more can come of the counts.
@@ -145,10 +139,9 @@ pub fn tell_one(t: Told, a: &mut [u32], counts: &mut [u32]) -> u32
     ensures { TellsOne t a.old counts.old a.new counts.new result }
 {
     let k = tell(t, counts);
-    if k == 0 {
-        return 0;
+    if k != 0 {
+        zero(a);
     }
-    zero(a);
     k
 }
 
@@ -156,10 +149,9 @@ pub fn tell_two(t: Told, a: &mut [u32], b: &mut [u32], counts: &mut [u32]) -> u3
     ensures { TellsTwo t a.old b.old counts.old a.new b.new counts.new result }
 {
     let k = tell_one(t, a, counts);
-    if k == 0 {
-        return 0;
+    if k != 0 {
+        zero(b);
     }
-    zero(b);
     k
 }
 
@@ -167,9 +159,8 @@ pub fn tell_three(t: Told, a: &mut [u32], b: &mut [u32], c: &mut [u32], counts: 
     ensures { TellsThree t a.old b.old c.old counts.old a.new b.new c.new counts.new result }
 {
     let k = tell_two(t, a, b, counts);
-    if k == 0 {
-        return 0;
+    if k != 0 {
+        zero(c);
     }
-    zero(c);
     k
 }

@@ -1,13 +1,14 @@
 -- The answer of a traversal that is asked alone.
-use mathlib.Core.Path.{◌≡◌, refl, sym, ap, ap₂, ◌∙◌}
+use mathlib.Core.Path.{◌≡◌, refl, sym, ap, ◌∙◌}
 use mathlib.Core.Bool.{Bool, true, false}
 use mathlib.Core.List.{List, []}
-use Prim.Native.Nat.{ℕ, zero, suc, ◌+◌, ◌-◌, ◌*◌, ◌<◌, ◌≤◌}
+use Prim.Native.Nat.{ℕ, ◌+◌, ◌-◌, ◌*◌, ◌<◌, ◌≤◌}
 use native.Mathlib.Omega.{arith}
 use borrow.Author.Tests.{le-leb, lt-leb}
 use lib.ListN.{length, get_or}
 use mir.Syntax.{w32}
 use mir.Val.{Fits}
+use Rattle.std.specs.Prelude.{Ok, Err}
 use Rattle.laws.specs.Tests.{◌≤?◌, refuse}
 use Rattle.laws.specs.Lists.{member}
 use Rattle.laws.specs.Search.{visits}
@@ -15,13 +16,15 @@ use Rattle.laws.specs.Words.{part, zeros, AllBelow}
 use Rattle.laws.proofs.Tests.{one_le}
 use Rattle.laws.proofs.Ranges.{length-map-upto}
 use Rattle.laws.proofs.Words.{part_length, zeros-length, zeros_at}
-use Rattle.rules.specs.declared.Listed.TheVariants.{Pins, Refused}
+use Rattle.rules.specs.declared.Refusal.{Refusal}
+use Rattle.rules.specs.declared.Refusal.TheVariants.{Room, Index}
 use Rattle.rules.specs.Refusals.{drivers_fit}
 use Rattle.rules.specs.Stages.{back, roots_of}
 use Rattle.rules.specs.Tables.{decode_at, driver_or, held}
-use Rattle.rules.specs.Answers.{listed_of, drivers_graph}
+use Rattle.rules.specs.Answers.{done_of, drivers_graph}
 use Rattle.words.specs.Tables.{written}
 use Rattle.words.proofs.Tables.{written-filled}
+use Rattle.walk.proofs.Answered.{number_zero, answered, refused_too, held_none}
 use Rattle.walk.specs.State.{list_of, Stops, Going, AllVisited, StopsSet}
 use Rattle.walk.proofs.Visits.{visits_are, walk_begins}
 use Rattle.traverse.specs.Answer.{number_of, visit_order, Traversed, early_number, upward, asked}
@@ -35,36 +38,34 @@ asked_is ws pins false roots =
     let e : pins + 1 ≡ length (drivers_graph pins ws).drivers - 1 + 1 = omega (arith, n) in
     ap upward e
 
--- ---- w₁ and o₁ are the work and the order after they were cleared, c the early number
-module _ (ws : List ℕ) (pins : ℕ) (given : Bool) (roots handed o w o₁ w₁ : List ℕ) (c : ℕ)
-    (eo : o₁ ≡ zeros (length o)) (ew : w₁ ≡ zeros (length w)) (e : c ≡ early_number ws pins given roots handed (length o₁) (length w₁)) where
+-- ---- w₁ and o₁ are the work and the order after they were cleared
+module _ (ws : List ℕ) (pins : ℕ) (given : Bool) (roots handed o w o₁ w₁ : List ℕ) (eo : o₁ ≡ zeros (length o)) (ew : w₁ ≡ zeros (length w)) where
   long : length w₁ ≡ length w
   long = ap length ew ∙ zeros-length (length w)
 
   wide : length o₁ ≡ length o
   wide = ap length eo ∙ zeros-length (length o)
 
-  early_is : c ≡ early_number ws pins given roots handed (length o) (length w)
-  early_is = e ∙ ap₂ (λ a b. early_number ws pins given roots handed a b) wide long
+  early_is : early_number ws pins given roots handed (length o₁) (length w₁) ≡ early_number ws pins given roots handed (length o) (length w)
+  early_is = λ i. early_number ws pins given roots handed (wide i) (long i)
 
   -- a refusal leaves both 0
-  refusal : (k : ℕ) (v : List ℕ) → number_of ws pins given roots handed o w ≡ suc k → v ≡ zeros (length w) → Traversed ws pins given roots handed o w o₁ v (Refused (suc k))
-  refusal k v n z = record {
-    answer = sym (ap (λ (x : ℕ). listed_of x (length (visit_order ws pins given roots handed))) n);
-    order = eo ∙ sym (ap (λ (x : ℕ). held x (visit_order ws pins given roots handed) (length o)) n);
+  refusal : (e : Refusal) (v : List ℕ) → Err e ≡ done_of (number_of ws pins given roots handed o w) → v ≡ zeros (length w) → Traversed ws pins given roots handed o w o₁ v (Err e)
+  refusal e v q z = record {
+    answer = refused_too (number_of ws pins given roots handed o w) (length (visit_order ws pins given roots handed)) e q;
+    order = eo ∙ held_none (number_of ws pins given roots handed o w) (visit_order ws pins given roots handed) (length o) e q;
     work = z;
   }
 
-  refusal_of : (k : ℕ) → (k ≡ 0 → ⊥) → number_of ws pins given roots handed o w ≡ k → Traversed ws pins given roots handed o w o₁ w₁ (Refused k)
-  refusal_of zero n q = absurd (n refl)
-  refusal_of (suc k) n q = refusal k w₁ q ew
+  pub refused_early : (e : Refusal) → Err e ≡ done_of (early_number ws pins given roots handed (length o₁) (length w₁)) → Traversed ws pins given roots handed o w o₁ w₁ (Err e)
+  refused_early e q = refusal e w₁ (number_early ws pins given roots handed (length o) (length w) e (q ∙ ap done_of early_is)) ew
 
-  pub refused_early : (c ≡ 0 → ⊥) → Traversed ws pins given roots handed o w o₁ w₁ (Refused c)
-  refused_early n = refusal_of c n (number_early ws pins given roots handed (length o) (length w) c early_is n)
+  module _ (u : Unit {0}) (y : Ok u ≡ done_of (early_number ws pins given roots handed (length o₁) (length w₁))) where
+    z : early_number ws pins given roots handed (length o₁) (length w₁) ≡ 0
+    z = number_zero (early_number ws pins given roots handed (length o₁) (length w₁)) u tt y
 
-  module _ (z : c ≡ 0) where
     pub sound : Sound ws pins given roots handed (length w₁)
-    sound = early_sound ws pins given roots handed (length o₁) (length w₁) (sym e ∙ z)
+    sound = early_sound ws pins given roots handed (length o₁) (length w₁) z
 
     zero_at : (j : ℕ) → get_or w₁ j 0 ≡ 0
     zero_at j = ap (λ (v : List ℕ). get_or v j 0) ew ∙ zeros_at (length w) j
@@ -74,8 +75,8 @@ module _ (ws : List ℕ) (pins : ℕ) (given : Bool) (roots handed o w o₁ w₁
 
     module _ (w₂ : List ℕ) (b : Bool) (s : StopsSet (pins + 1) handed w₁ w₂ b) where
       -- a pin that is handed on twice; w₃ is the work after it was cleared again
-      pub refused_repeat : (w₃ : List ℕ) → b ≡ false → w₃ ≡ zeros (length w₂) → Traversed ws pins given roots handed o w o₁ w₃ (Refused 15)
-      refused_repeat w₃ f q = refusal 14 w₃ (number_repeat ws pins given roots handed (length o) (length w) (sym early_is ∙ z) (sym s.answer ∙ f))
+      pub refused_repeat : (w₃ : List ℕ) → b ≡ false → w₃ ≡ zeros (length w₂) → Traversed ws pins given roots handed o w o₁ w₃ (Err Index)
+      refused_repeat w₃ f q = refusal Index w₃ (sym (ap done_of (number_repeat ws pins given roots handed (length o) (length w) (sym early_is ∙ z) (sym s.answer ∙ f))))
           (q ∙ ap zeros (s.long ∙ long))
 
       module _ (t : b ≡ true) where
@@ -115,17 +116,17 @@ module _ (ws : List ℕ) (pins : ℕ) (given : Bool) (roots handed o w o₁ w₁
           number_is : number_of ws pins given roots handed o w ≡ refuse 11 (length (visit_order ws pins given roots handed) ≤? length o)
           number_is = number_last ws pins given roots handed (length o) (length w) (sym early_is ∙ z) (sym s.answer ∙ t)
 
-          pub refused_room : length o₁ < k → Traversed ws pins given roots handed o w o₁ w₄ (Refused 11)
-          refused_room l = refusal 10 w₄
-              (number_is ∙ ap (refuse 11) (lt-leb (length (visit_order ws pins given roots handed)) (length o) (omega (arith, count_is, wide)))) work_is
+          pub refused_room : length o₁ < k → Traversed ws pins given roots handed o w o₁ w₄ (Err Room)
+          refused_room l = refusal Room w₄
+              (sym (ap done_of (number_is ∙ ap (refuse 11) (lt-leb (length (visit_order ws pins given roots handed)) (length o) (omega (arith, count_is, wide)))))) work_is
 
-          number_zero : k ≤ length o₁ → number_of ws pins given roots handed o w ≡ 0
-          number_zero l = number_is ∙ ap (refuse 11) (le-leb (length (visit_order ws pins given roots handed)) (length o) (omega (arith, count_is, wide)))
+          none : k ≤ length o₁ → number_of ws pins given roots handed o w ≡ 0
+          none l = number_is ∙ ap (refuse 11) (le-leb (length (visit_order ws pins given roots handed)) (length o) (omega (arith, count_is, wide)))
 
-          pub listed : (o₃ : List ℕ) → k ≤ length o₁ → o₃ ≡ written o₁ 0 (part w₃ (3 * (pins + 1)) k) → Traversed ws pins given roots handed o w o₃ w₄ (Pins k)
+          pub listed : (o₃ : List ℕ) → k ≤ length o₁ → o₃ ≡ written o₁ 0 (part w₃ (3 * (pins + 1)) k) → Traversed ws pins given roots handed o w o₃ w₄ (Ok k)
           listed o₃ l p = record {
-            answer = ap Pins (sym count_is) ∙ sym (ap (λ (x : ℕ). listed_of x (length (visit_order ws pins given roots handed))) (number_zero l));
+            answer = answered (number_of ws pins given roots handed o w) k _ (none l) (sym count_is);
             order = p ∙ (λ i. written (eo i) 0 (list_is i)) ∙ written-filled (visit_order ws pins given roots handed) (length o) (omega (arith, count_is, wide))
-                ∙ sym (ap (λ (x : ℕ). held x (visit_order ws pins given roots handed) (length o)) (number_zero l));
+                ∙ sym (ap (λ (x : ℕ). held x (visit_order ws pins given roots handed) (length o)) (none l));
             work = work_is;
           }

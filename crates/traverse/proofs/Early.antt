@@ -2,66 +2,48 @@
 use mathlib.Core.Path.{◌≡◌, refl, sym, ap, ◌∙◌}
 use mathlib.Core.Bool.{Bool, true, false, ◌&&◌}
 use mathlib.Core.List.{List}
-use Prim.Native.Nat.{ℕ, zero, suc, ◌+◌, ◌*◌, ◌<◌, ◌≤◌}
+use Prim.Native.Nat.{ℕ, zero, suc, ◌+◌, ◌*◌, ◌≤◌}
 use native.Mathlib.Omega.{arith}
-use borrow.Author.Tests.{le-leb, lt-leb, leb-true}
+use borrow.Author.Tests.{leb-true}
 use lib.ListN.{length}
-use Rattle.std.specs.Prelude.{if◌then◌else◌}
+use Rattle.std.specs.Prelude.{Ok, Err, if◌then◌else◌}
 use Rattle.laws.specs.Tests.{◌≤?◌, or_else, refuse}
 use Rattle.laws.specs.Words.{AllBelow}
-use Rattle.laws.proofs.Tests.{and_l, and_r, or_zero, first_refused, last_refused}
+use Rattle.laws.proofs.Tests.{and_l, and_r, or_zero, last_refused}
 use Rattle.laws.proofs.Words.{below_tested}
+use Rattle.rules.specs.declared.Refusal.{Refusal}
+use Rattle.rules.specs.declared.Refusal.TheVariants.{Index}
 use Rattle.rules.specs.Bounds.{stage_work}
 use Rattle.rules.specs.Refusals.{drivers_fit, below, no_repeat}
 use Rattle.rules.specs.Stages.{traversal}
-use Rattle.rules.specs.Answers.{drivers_number, drivers_graph, traverse_number}
+use Rattle.rules.specs.Answers.{done_of, drivers_number, drivers_graph, traverse_number}
+use Rattle.walk.proofs.Answered.{or_refused, or_accepted}
 use Rattle.walk.proofs.Numbers.{number_sound}
 use Rattle.traverse.specs.Answer.{lists_fit, indexes_fit, early_number}
 
--- ---- 1: the lists and the room, in turn
-module _ (roots handed room : ℕ) where
-  pub roots_many : 16777215 < roots → false ≡ lists_fit roots handed room
-  roots_many l = sym (rw (lt-leb roots 16777215 l))
+-- ---- what the driver table, the lists and the lengths call for, and the indexes
+module _ (ws : List ℕ) (pins : ℕ) (given : Bool) (roots handed : List ℕ) (room work : ℕ) (a : Bool) (ea : a ≡ lists_fit (length roots) (length handed) room) where
+  first_is : drivers_number pins ws a (12 * pins + 64 ≤? work) ≡ drivers_number pins ws (lists_fit (length roots) (length handed) room) (stage_work pins 0 ≤? work)
+  first_is = let e : 12 * pins + 64 ≡ stage_work pins 0 = omega arith in λ i. drivers_number pins ws (ea i) (e i ≤? work)
 
-  module _ (lr : roots ≤ 16777215) where
-    pub handed_many : 16777215 < handed → false ≡ lists_fit roots handed room
-    handed_many l = sym (rw (le-leb roots 16777215 lr, lt-leb handed 16777215 l))
+  abbrev first_number : ℕ
+  first_number = drivers_number pins ws (lists_fit (length roots) (length handed) room) (stage_work pins 0 ≤? work)
 
-    pub lists_few : handed ≤ 16777215 → (room ≤? 16777215) ≡ lists_fit roots handed room
-    lists_few l = sym (rw (le-leb roots 16777215 lr, le-leb handed 16777215 l))
+  abbrev ranges : ℕ
+  ranges = refuse 15 (indexes_fit (pins + 1) given roots handed)
 
--- ---- 15, what speaks of ranges
-module _ (m : ℕ) (given : Bool) (roots handed : List ℕ) where
-  pub roots_out : (b : Bool) → given ≡ true → b ≡ below m roots → b ≡ false → false ≡ indexes_fit m given roots handed
-  roots_out b g e f = sym (rw (g, sym e ∙ f))
-
-  pub roots_in : (b r : Bool) → given ≡ true → b ≡ below m roots → b ≡ true → r ≡ below m handed → r ≡ indexes_fit m given roots handed
-  roots_in b r g e t q = q ∙ sym (rw (g, sym e ∙ t))
-
-  pub roots_none : (r : Bool) → given ≡ false → r ≡ below m handed → r ≡ indexes_fit m given roots handed
-  roots_none r g q = q ∙ sym (rw g)
-
--- ---- the number: k is what the driver table, the lists and the lengths call for
-module _ (ws : List ℕ) (pins : ℕ) (given : Bool) (roots handed : List ℕ) (room work : ℕ) (a : Bool) (k : ℕ)
-    (ea : a ≡ lists_fit (length roots) (length handed) room) (ek : k ≡ drivers_number pins ws a (12 * pins + 64 ≤? work)) where
-  first_is : drivers_number pins ws (lists_fit (length roots) (length handed) room) (stage_work pins 0 ≤? work) ≡ k
-  first_is =
-      let e : stage_work pins 0 ≡ 12 * pins + 64 = omega arith in
-      (λ i. drivers_number pins ws (sym ea i) (e i ≤? work)) ∙ sym ek
-
-  pub early_first : (k ≡ 0 → ⊥) → k ≡ early_number ws pins given roots handed room work
+  pub early_first : (e : Refusal) → Err e ≡ done_of (drivers_number pins ws a (12 * pins + 64 ≤? work)) → Err e ≡ done_of (early_number ws pins given roots handed room work)
   unfolding early_number
-  early_first n = sym (first_refused (drivers_number pins ws (lists_fit (length roots) (length handed) room) (stage_work pins 0 ≤? work))
-      (refuse 15 (indexes_fit (pins + 1) given roots handed)) k first_is n)
+  early_first e q = or_refused first_number ranges tt e (q ∙ ap done_of first_is)
 
-  module _ (z : k ≡ 0) (i : Bool) (ei : i ≡ indexes_fit (pins + 1) given roots handed) where
-    pub early_15 : i ≡ false → 15 ≡ early_number ws pins given roots handed room work
+  module _ (u : Unit {0}) (y : Ok u ≡ done_of (drivers_number pins ws a (12 * pins + 64 ≤? work))) (i : Bool) (ei : i ≡ indexes_fit (pins + 1) given roots handed) where
+    pub early_15 : i ≡ false → Err Index ≡ done_of (early_number ws pins given roots handed room work)
     unfolding early_number
-    early_15 f = sym (rw (first_is ∙ z, sym ei ∙ f))
+    early_15 f = or_accepted first_number ranges tt (Err Index) u (y ∙ ap done_of first_is) (sym (rw (sym ei ∙ f)))
 
-    pub early_none : i ≡ true → 0 ≡ early_number ws pins given roots handed room work
+    pub early_none : i ≡ true → Ok tt ≡ done_of (early_number ws pins given roots handed room work)
     unfolding early_number
-    early_none t = sym (rw (first_is ∙ z, sym ei ∙ t))
+    early_none t = or_accepted first_number ranges tt (Ok tt) u (y ∙ ap done_of first_is) (sym (rw (sym ei ∙ t)))
 
 -- ---- what the number 0 says
 pub record Sound (ws : List ℕ) (pins : ℕ) (given : Bool) (roots handed : List ℕ) (work : ℕ) : Type 0 where
@@ -118,8 +100,9 @@ module _ (ws : List ℕ) (pins : ℕ) (given : Bool) (roots handed : List ℕ) (
       ∙ ap (or_else d) (refuse_and (x && below (pins + 1) handed) (no_repeat handed) last)
       ∙ or_chain d (refuse 15 ranged) (or_else (refuse 15 (no_repeat handed)) last)
 
-  pub number_early : (c : ℕ) → c ≡ early_number ws pins given roots handed room work → (c ≡ 0 → ⊥) → traverse_number pins ws given roots handed room work ≡ c
-  number_early c e n = number_is ∙ first_refused (early_number ws pins given roots handed room work) (or_else (refuse 15 (no_repeat handed)) last) c (sym e) n
+  pub number_early : (e : Refusal) → Err e ≡ done_of (early_number ws pins given roots handed room work) → Err e ≡ done_of (traverse_number pins ws given roots handed room work)
+  number_early e q =
+      or_refused (early_number ws pins given roots handed room work) (or_else (refuse 15 (no_repeat handed)) last) tt e q ∙ ap done_of (sym number_is)
 
   pub number_repeat : early_number ws pins given roots handed room work ≡ 0 → no_repeat handed ≡ false → traverse_number pins ws given roots handed room work ≡ 15
   number_repeat z f = number_is ∙ rw (z, f)

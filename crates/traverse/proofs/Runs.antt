@@ -1,6 +1,5 @@
 -- The visits that are asked: of the roots given, or of the pins from 1 upward.
 use mathlib.Core.Path.{◌≡◌, refl, sym, ap, ◌∙◌}
-use mathlib.Core.Bool.{Bool, true, false}
 use mathlib.Core.List.{List, [], ◌∷◌, ◌++◌}
 use Prim.Native.Nat.{ℕ, ◌+◌, ◌≤◌}
 use native.Mathlib.Numerals.{add-one}
@@ -13,7 +12,7 @@ use Rattle.laws.proofs.Folds.{over_snoc}
 use Rattle.laws.proofs.Visits.{visit_at}
 use Rattle.walk.specs.State.{goes, list_of, Stops, Going, Kept, Visited, AllVisited}
 use Rattle.walk.proofs.Visits.{kept-none, kept_on, stops_kept}
-use Rattle.traverse.specs.Answer.{upward, asked}
+use Rattle.traverse.specs.Answer.{upward}
 
 upward-more : (p : ℕ) → 1 ≤ p → upward (p + 1) ≡ upward p ++ (p ∷ [])
 upward-more p l =
@@ -49,11 +48,3 @@ up_ends ws m v w k p b l r =
       kept = b.kept;
       list = λ handed st. b.list handed st ∙ ap (λ (n : ℕ). over (visit_at (goes ws m handed)) (list_of v m 0) (upward n)) e;
     }
-
--- the two ways to visit
-module _ (ws : List ℕ) (m : ℕ) (given : Bool) (roots v w : List ℕ) (k : ℕ) where
-  pub runs_given : given ≡ true → AllVisited ws m roots v 0 w k → AllVisited ws m (asked m given roots) v 0 w k
-  runs_given g a = rw g a
-
-  pub runs_up : given ≡ false → AllVisited ws m (upward m) v 0 w k → AllVisited ws m (asked m given roots) v 0 w k
-  runs_up g a = rw g a

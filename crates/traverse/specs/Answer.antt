@@ -1,14 +1,14 @@
 -- What a traversal asked alone answers and leaves, and the parts of its number as the code tests them.
-use Rattle.std.specs.Prelude.{◌≡◌, Bool, true, ◌&&◌, List, ℕ, ◌+◌, length, if◌then◌else◌}
+use Rattle.std.specs.Prelude.{◌≡◌, Result, Bool, true, ◌&&◌, List, ℕ, ◌+◌, length, if◌then◌else◌}
 use Rattle.laws.specs.Tests.{◌<?◌, ◌≤?◌, or_else, refuse}
 use Rattle.laws.specs.Lists.{keep, upto}
 use Rattle.laws.specs.Words.{zeros}
-use Rattle.rules.specs.declared.Listed.{Listed}
+use Rattle.rules.specs.declared.Refusal.{Refusal}
 use Rattle.rules.specs.Bounds.{max_list, stage_work}
 use Rattle.rules.specs.Stages.{traversal}
 use Rattle.rules.specs.Tables.{held}
 use Rattle.rules.specs.Refusals.{below}
-use Rattle.rules.specs.Answers.{listed_of, drivers_number, drivers_graph, traverse_number}
+use Rattle.rules.specs.Answers.{answer_of, drivers_number, drivers_graph, traverse_number}
 
 -- ---- the whole promise: o and w are the order and the work words as they were lent, o' and w' as they come back
 abbrev pub number_of : List ℕ → ℕ → Bool → List ℕ → List ℕ → List ℕ → List ℕ → ℕ
@@ -17,8 +17,8 @@ number_of ws pins given roots handed o w = traverse_number pins ws given roots h
 abbrev pub visit_order : List ℕ → ℕ → Bool → List ℕ → List ℕ → List ℕ
 visit_order ws pins given roots handed = traversal (drivers_graph pins ws) given roots handed
 
-pub record Traversed (ws : List ℕ) (pins : ℕ) (given : Bool) (roots handed o w o' w' : List ℕ) (r : Listed) : Type 0 where
-  pub answer : r ≡ listed_of (number_of ws pins given roots handed o w) (length (visit_order ws pins given roots handed))
+pub record Traversed (ws : List ℕ) (pins : ℕ) (given : Bool) (roots handed o w o' w' : List ℕ) (r : Result ℕ Refusal) : Type 0 where
+  pub answer : r ≡ answer_of (number_of ws pins given roots handed o w) (length (visit_order ws pins given roots handed))
   pub order : o' ≡ held (number_of ws pins given roots handed o w) (visit_order ws pins given roots handed) (length o)
   pub work : w' ≡ zeros (length w)
 

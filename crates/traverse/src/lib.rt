@@ -4,10 +4,11 @@
 ghost use Rattle.std.specs.Prelude.{◌≡◌, true, ◌+◌, ◌≤◌};
 ghost use Rattle.laws.specs.Words.{AllBelow};
 ghost use Rattle.walk.specs.State.{Going, AllVisited};
+ghost use Rattle.rules.specs.Answers.{done_of};
 ghost use Rattle.traverse.specs.Answer.{lists_fit, indexes_fit, early_number, upward, asked, Traversed};
 
-use rules::Listed;
-use walk::fit::drivers_number;
+use rules::Refusal;
+use walk::fit::test_drivers;
 use walk::given::{all_below, set_stops};
 use walk::{visit, visit_all};
 use words::{copy, zero};
@@ -16,30 +17,18 @@ use words::{copy, zero};
 fn lists_fit(roots: usize, handed: usize, room: usize) -> bool
     ensures { result ≡ lists_fit roots handed room }
 {
-    if 16777215 < roots {
-        return false;
-    }
-    if 16777215 < handed {
-        return false;
-    }
-    room <= 16777215
+    roots <= 16777215 && handed <= 16777215 && room <= 16777215
 }
 
 // 15, the first half: are the indexes in range?
 fn indexes_fit(m: usize, given: bool, roots: &[u32], handed: &[u32]) -> bool
     ensures { result ≡ indexes_fit m given roots.now handed.now }
 {
-    if !given {
-        return all_below(handed, m);
-    }
-    if !all_below(roots, m) {
-        return false;
-    }
-    all_below(handed, m)
+    (!given || all_below(roots, m)) && all_below(handed, m)
 }
 
-// The number of the first refusal that shows without work words, else 0.
-fn early_number(
+// The refusals that show without work words.
+fn test_early(
     drivers: &[u32],
     pins: u32,
     given: bool,
@@ -47,21 +36,16 @@ fn early_number(
     handed: &[u32],
     room: usize,
     work: usize,
-) -> u32
-    ensures { result ≡ early_number drivers.now pins given roots.now handed.now room work }
+) -> Result<(), Refusal>
+    ensures { result ≡ done_of (early_number drivers.now pins given roots.now handed.now room work) }
 {
     let n = pins as usize;
-    let m = n + 1;
-    let least = 12 * n + 64;
     let lists = lists_fit(roots.len(), handed.len(), room);
-    let k = drivers_number(drivers, n, lists, least <= work);
-    if k != 0 {
-        return k;
+    test_drivers(drivers, n, lists, 12 * n + 64 <= work)?;
+    if !indexes_fit(n + 1, given, roots, handed) {
+        return Err(Refusal::Index);
     }
-    if !indexes_fit(m, given, roots, handed) {
-        return 15;
-    }
-    0
+    Ok(())
 }
 
 // The visits of the pins from 1 upward.
@@ -71,10 +55,8 @@ fn visit_up(drivers: &[u32], work: &mut [u32], m: usize) -> usize
     ensures { AllVisited drivers.now m (upward m) work.old 0 work.new result }
 {
     let mut k = 0;
-    let mut p = 1;
-    while p < m {
+    for p in 1..m {
         k = visit(drivers, work, m, k, p as u32);
-        p += 1;
     }
     k
 }
@@ -94,6 +76,7 @@ fn run(drivers: &[u32], given: bool, roots: &[u32], work: &mut [u32], m: usize) 
 }
 
 // The visit order into `order`: from the roots where they are given, else from pins 1 upward, and not past the pins handed on.
+// `given` stands beside the roots, and is no Option, since the C interface tests the length of roots that are not given too.
 pub fn topo_traverse_generic(
     drivers: &[u32],
     pins: u32,
@@ -102,28 +85,23 @@ pub fn topo_traverse_generic(
     handed: &[u32],
     order: &mut [u32],
     work: &mut [u32],
-) -> Listed
+) -> Result<u32, Refusal>
     ensures { Traversed drivers.now pins given roots.now handed.now order.old work.old order.new work.new result }
 {
     zero(order);
     zero(work);
-    let k = early_number(drivers, pins, given, roots, handed, order.len(), work.len());
-    if k != 0 {
-        return Listed::Refused(k);
-    }
+    test_early(drivers, pins, given, roots, handed, order.len(), work.len())?;
     let m = (pins as usize) + 1;
     if !set_stops(handed, work, m) {
         zero(work);
-        return Listed::Refused(15);
+        return Err(Refusal::Index);
     }
     let listed = run(drivers, given, roots, work, m);
     if order.len() < listed {
         zero(work);
-        return Listed::Refused(11);
+        return Err(Refusal::Room);
     }
-    let first = 3 * m;
-    copy(work, first, order, 0, listed);
+    copy(work, 3 * m, order, 0, listed);
     zero(work);
-    let count = listed as u32;
-    Listed::Pins(count)
+    Ok(listed as u32)
 }

@@ -1,23 +1,27 @@
 -- A stage by its split, its row and what is settled.
 use mathlib.Core.Path.{◌≡◌, refl, sym, ap, subst, ◌∙◌}
 use mathlib.Core.Logic.{inl, inr}
-use mathlib.Core.Bool.{Bool, true, false}
+use mathlib.Core.Bool.{true, false}
 use mathlib.Core.List.{List, [], ◌∷◌, ◌++◌}
 use Prim.Native.Nat.{ℕ, ◌+◌, ◌-◌, ◌*◌, ◌<◌, ◌≤◌}
 use native.Mathlib.Omega.{arith}
 use lib.ListN.{length, get_or}
 use Rattle.std.specs.Prelude.{Some, if◌then◌else◌}
+use borrow.Author.Tests.{lt-ltb, le-ltb}
 use Rattle.laws.specs.Tests.{◌<?◌, one}
 use Rattle.laws.specs.Lists.{count, member, over, is_nil}
 use Rattle.laws.specs.Sets.{remove}
 use Rattle.laws.specs.Words.{part}
-use Rattle.laws.proofs.Tests.{by_test, true≢false, if_true, if_false, one_le}
+use Rattle.laws.proofs.Tests.{by_test, if_true, if_false, one_le}
 use Rattle.laws.proofs.Bags.{count-append, of_append, is_member, member_true, member_false}
 use Rattle.laws.proofs.Indices.{at_in}
 use Rattle.laws.proofs.Words.{part_at, part_in}
 use Rattle.rules.specs.declared.GraphCounts.{GraphCounts}
+use Rattle.rules.specs.declared.Refusal.{Refusal}
+use Rattle.rules.specs.declared.Refusal.TheVariants.{Room}
 use Rattle.rules.specs.Tables.{graph_in, end_marker}
 use Rattle.rules.specs.Stages.{Stage}
+use Rattle.rules.specs.Refusals.{something_read}
 use Rattle.rules.specs.Answers.{endpoints}
 use Rattle.cuts.proofs.Rooms.{handed_fits}
 use Rattle.cuts.proofs.Next.{taken_le}
@@ -25,17 +29,16 @@ use Rattle.graphs.specs.Parts.{lent as words_of}
 use Rattle.members.specs.Set.{SetIn}
 use Rattle.levels.specs.State.{stops_of}
 use Rattle.joins.specs.State.{Takens}
-use Rattle.picks.specs.Tables.{Pushed, Pushing, pushed, full}
+use Rattle.picks.specs.Tables.{Full, Pushed}
 use Rattle.clears.specs.State.{Used}
 use Rattle.splits.specs.declared.Spot.{Spot}
 use Rattle.splits.specs.declared.Piece.{Piece}
-use Rattle.splits.specs.State.{split_in, order_in, Idle, Stays, CutOff, made, narrow as cut_narrow}
+use Rattle.splits.specs.State.{split_in, order_in, Idle, Cut, Uncut, Unmade as CutUnmade, nothing as cut_nothing, narrow as cut_narrow}
 use Rattle.settles.specs.State.{Settled}
 use Rattle.settles.proofs.Settles.{set_same}
 use Rattle.asked.proofs.Graphs.{stops_members, split_is, nothing_read}
 use Rattle.turns.specs.declared.Run.{Run}
-use Rattle.turns.specs.declared.Step.{Step}
-use Rattle.turns.specs.State.{Before, Turn, stage_in, Read, Turned, ended, goes_on, narrow}
+use Rattle.turns.specs.State.{Before, Turn, stage_in, Ended, GoesOn, Unmade, nothing, narrow, Stopped}
 
 pins_are : (c : GraphCounts) (ws os ds rs : List ℕ) → Rattle.rules.specs.Graph.pin_count (graph_in c (words_of ws os ds rs)) ≡ c.pins
 pins_are c ws os ds rs = omega (arith, Rattle.laws.proofs.Ranges.length-map-upto (λ u. Rattle.rules.specs.Tables.driver_or (Rattle.rules.specs.Tables.decode_at ws u)) (c.pins + 1))
@@ -57,36 +60,34 @@ module _ (c : GraphCounts) (ws os ds rs w l h t : List ℕ) (at : Run) (upper d 
   unfolding stage_in
   stage_is = split_is c ws os ds rs L (stops_of w (c.pins + 1)) B d (stops_members w (c.pins + 1) B T.before.stops T.before.inside T.idle.flags)
 
-  module _ (w₁ h₁ t₁ : List ℕ) (r : Piece) (q : CutOff c ws os ds rs spot w h t w₁ h₁ t₁ r) where
-    abbrev S : Stage
-    S = stage_in c ws os ds rs w h at d
+  abbrev S : Stage
+  S = stage_in c ws os ds rs w h at d
 
-    listed : CutOff c ws os ds rs spot w h t w₁ h₁ t₁ r → r.listed ≡ length (order_in c ws os ds rs (c.pins + 1) (part w (8 * (c.pins + 1)) at.left) (stops_of w (c.pins + 1)))
-    listed (made a b u s n e) = n
-    listed (cut_narrow a x y z n e) = n
+  read_is : (0 <? length (order_in c ws os ds rs (c.pins + 1) (part w (8 * (c.pins + 1)) at.left) (stops_of w (c.pins + 1)))) ≡ something_read (graph_in c (words_of ws os ds rs)) (part w (8 * (c.pins + 1)) at.left)
+  read_is = nothing_read c ws os ds rs L (stops_of w (c.pins + 1))
 
-    pub was_read : (x : Step) → x.read ≡ (0 <? r.listed) → Read c ws os ds rs w at x
-    was_read x e = record { read = e ∙ ap (λ (k : ℕ). 0 <? k) (listed q) ∙ nothing_read c ws os ds rs L (stops_of w (c.pins + 1)) }
+  was_read : 0 < length (order_in c ws os ds rs (c.pins + 1) (part w (8 * (c.pins + 1)) at.left) (stops_of w (c.pins + 1))) → something_read (graph_in c (words_of ws os ds rs)) (part w (8 * (c.pins + 1)) at.left) ≡ true
+  was_read n = sym read_is ∙ lt-ltb 0 (length (order_in c ws os ds rs (c.pins + 1) (part w (8 * (c.pins + 1)) at.left) (stops_of w (c.pins + 1)))) n
 
-    too_small : CutOff c ws os ds rs spot w h t w₁ h₁ t₁ r → r.fits ≡ false → (x : Step) → x.read ≡ (0 <? r.listed) → x.fits ≡ false → Turned c ws os ds rs w l h t at upper d w₁ l h₁ t₁ x
-    too_small (made a b u s n e) f x xr xf = true≢false r.fits e f
-    too_small (cut_narrow (inl a) y z v n e) f x xr xf = narrow (was_read x xr) (inr (inl (subst (λ (k : Stage). length h < at.handed + length k.handed) stage_is a))) y refl z v xf
-    too_small (cut_narrow (inr a) y z v n e) f x xr xf = narrow (was_read x xr) (inr (inr (subst (λ (k : Stage). length t < at.taken + length k.taken) stage_is a))) y refl z v xf
+  module _ (w₁ h₁ t₁ : List ℕ) where
+    -- the split is refused, and so is the stage
+    pub turn_refused : (e : Refusal) → Uncut c ws os ds rs spot w h t w₁ h₁ t₁ e → Stopped c ws os ds rs w l h t at d w₁ l h₁ t₁ e
+    turn_refused e u = record { why = by_reason u.why; work_long = u.work_long; rows_long = refl; handed_long = u.handed_long; taken_long = u.taken_long }
+      where
+        by_reason : CutUnmade c ws os ds rs spot w h t e → Unmade c ws os ds rs w l h t at d e
+        by_reason (cut_nothing z v) = nothing (sym read_is ∙ le-ltb 0 (length (order_in c ws os ds rs (c.pins + 1) (part w (8 * (c.pins + 1)) at.left) (stops_of w (c.pins + 1)))) (omega (arith, z))) v
+        by_reason (cut_narrow n (inl a) v) = narrow (was_read n) (inr (inl (subst (λ (k : Stage). length h < at.handed + length k.handed) stage_is a))) v
+        by_reason (cut_narrow n (inr a) v) = narrow (was_read n) (inr (inr (subst (λ (k : Stage). length t < at.taken + length k.taken) stage_is a))) v
 
-    pub turn_small : r.fits ≡ false → (x : Step) → x.read ≡ (0 <? r.listed) → x.fits ≡ false → Turned c ws os ds rs w l h t at upper d w₁ l h₁ t₁ x
-    turn_small = too_small q
-
-    module _ (v : r.fits ≡ true) where
-      got : CutOff c ws os ds rs spot w h t w₁ h₁ t₁ r
-          → (Pushed h at.handed S.handed h₁ r.handed) × (Pushed t at.taken S.taken t₁ r.taken) × (Used (c.pins + 1) w₁ r.listed r.size) × (Stays (c.pins + 1) w w₁)
-      got (made a b u s n e) = (subst (λ (k : Stage). Pushed h at.handed k.handed h₁ r.handed) stage_is a, subst (λ (k : Stage). Pushed t at.taken k.taken t₁ r.taken) stage_is b, u, s)
-      got (cut_narrow a x y z n e) = true≢false r.fits v e
+    module _ (r : Piece) (q : Cut c ws os ds rs spot w h t w₁ h₁ t₁ r) where
+      some_read : something_read (graph_in c (words_of ws os ds rs)) (part w (8 * (c.pins + 1)) at.left) ≡ true
+      some_read = was_read (omega (arith, q.listed, q.some))
 
       ph : Pushed h at.handed S.handed h₁ r.handed
-      ph = (got q).0
+      ph = subst (λ (k : Stage). Pushed h at.handed k.handed h₁ r.handed) stage_is q.handed
 
       pt : Pushed t at.taken S.taken t₁ r.taken
-      pt = (got q).1
+      pt = subst (λ (k : Stage). Pushed t at.taken k.taken t₁ r.taken) stage_is q.taken
 
       pub turn_pins : at.handed ≤ r.handed
       turn_pins = omega (arith, ph.count)
@@ -108,25 +109,26 @@ module _ (c : GraphCounts) (ws os ds rs w l h t : List ℕ) (at : Run) (upper d 
 
       -- ---- the last stage
       module _ (z : r.handed - at.handed ≡ 0) where
-        nothing : S.handed ≡ []
-        nothing = empty S.handed (omega (arith, pins_is, z))
+        nothing_handed : S.handed ≡ []
+        nothing_handed = empty S.handed (omega (arith, pins_is, z))
           where
             empty : (x : List ℕ) → length x ≡ 0 → x ≡ []
             empty [] e = refl
             empty (y ∷ x) e = absurd (omega arith)
 
-        last_by : (l₁ : List ℕ) (n : ℕ) (ok : Bool) (x : Step) → x.rows ≡ n → x.handed ≡ r.handed → x.taken ≡ r.taken → x.read ≡ (0 <? r.listed) → x.last ≡ true → x.fits ≡ ok
-            → Pushing l at.rows (at.lower ∷ end_marker ∷ 0 ∷ (r.taken - at.taken) ∷ []) l₁ n ok → Turned c ws os ds rs w l h t at upper d w₁ l₁ h₁ t₁ x
-        last_by l₁ n ok x en eh et xr xl xf (pushed p e) = ended (was_read x xr) nothing
-            (subst (Pushed h at.handed S.handed h₁) (sym eh) ph) (subst (Pushed t at.taken S.taken t₁) (sym et) pt)
-            (subst (Pushed l at.rows (at.lower ∷ end_marker ∷ 0 ∷ length S.taken ∷ []) l₁) (sym en)
-            (subst (λ (k : ℕ). Pushed l at.rows (at.lower ∷ end_marker ∷ 0 ∷ k ∷ []) l₁ n) count_is p))
-            (got q).3.long xl (xf ∙ e)
-        last_by l₁ n ok x en eh et xr xl xf (full a b e) = narrow (was_read x xr) (inl a) (got q).3.long b ph.long pt.long (xf ∙ e)
+        pub turn_last : (l₁ : List ℕ) (n : ℕ) → Pushed l at.rows (at.lower ∷ end_marker ∷ 0 ∷ (r.taken - at.taken) ∷ []) l₁ n
+            → Ended c ws os ds rs w l h t at d w₁ l₁ h₁ t₁ (record { rows = n; handed = r.handed; taken = r.taken })
+        turn_last l₁ n p = record {
+          read = some_read;
+          none_handed = nothing_handed;
+          handed = ph;
+          taken = pt;
+          rows = subst (λ (k : ℕ). Pushed l at.rows (at.lower ∷ end_marker ∷ 0 ∷ k ∷ []) l₁ n) count_is p;
+          work_long = q.stays.long;
+        }
 
-        pub turn_last : (l₁ : List ℕ) (n : ℕ) (ok : Bool) (x : Step) → x.rows ≡ n → x.handed ≡ r.handed → x.taken ≡ r.taken → x.read ≡ (0 <? r.listed) → x.last ≡ true → x.fits ≡ ok
-            → Pushing l at.rows (at.lower ∷ end_marker ∷ 0 ∷ (r.taken - at.taken) ∷ []) l₁ n ok → Turned c ws os ds rs w l h t at upper d w₁ l₁ h₁ t₁ x
-        turn_last = last_by
+        pub turn_last_full : (l₁ : List ℕ) → Full l at.rows (at.lower ∷ end_marker ∷ 0 ∷ (r.taken - at.taken) ∷ []) l₁ → Stopped c ws os ds rs w l h t at d w₁ l₁ h₁ t₁ Room
+        turn_last_full l₁ f = record { why = narrow some_read (inl f.small) refl; work_long = q.stays.long; rows_long = f.long; handed_long = ph.long; taken_long = pt.long }
 
       -- ---- any other
       h_part : part h₁ at.handed (r.handed - at.handed) ≡ S.handed
@@ -145,12 +147,15 @@ module _ (c : GraphCounts) (ws os ds rs w l h t : List ℕ) (at : Run) (upper d 
           (omega (arith, k, taken_le (graph_in c (words_of ws os ds rs)) L B (Some d) e)) (λ j lj ej. omega (arith, T.idle.lefts.inside j lj))
 
       pub turn_used : Used (c.pins + 1) w₁ r.listed r.size
-      turn_used = (got q).2
+      turn_used = q.used
+
+      pub turn_row_full : (l₁ : List ℕ) → Full l at.rows (at.lower ∷ upper ∷ (r.handed - at.handed) ∷ (r.taken - at.taken) ∷ []) l₁ → Stopped c ws os ds rs w l h t at d w₁ l₁ h₁ t₁ Room
+      turn_row_full l₁ f = record { why = narrow some_read (inl f.small) refl; work_long = q.stays.long; rows_long = f.long; handed_long = ph.long; taken_long = pt.long }
 
       module _ (ends : ℕ) (ee : ends ≡ endpoints c) where
         pub turn_set : SetIn w₁ (8 * (c.pins + 1)) ends at.left
         turn_set = subst (λ (k : ℕ). SetIn w₁ (8 * (c.pins + 1)) k at.left) (sym ee)
-            (set_same w w₁ (8 * (c.pins + 1)) (endpoints c) at.left (got q).3.long (got q).3.rest T.idle.lefts)
+            (set_same w w₁ (8 * (c.pins + 1)) (endpoints c) at.left q.stays.long q.stays.rest T.idle.lefts)
 
         pub turn_handed : Takens h₁ at.handed (r.handed - at.handed) (c.pins + 1)
         turn_handed = record {
@@ -179,7 +184,7 @@ module _ (c : GraphCounts) (ws os ds rs w l h t : List ℕ) (at : Run) (upper d 
           before_is = ph.words
 
           stop_at : (p : ℕ) → p < c.pins + 1 → get_or w₂ (c.pins + 1 + p) 0 ≡ one (member p (part h₁ 0 r.handed))
-          stop_at p lp = s.stops p lp ∙ ap (λ (x : ℕ). if member p (part h₁ at.handed (r.handed - at.handed)) then 1 else x) ((got q).3.stops p lp ∙ T.before.stops.stop p lp)
+          stop_at p lp = s.stops p lp ∙ ap (λ (x : ℕ). if member p (part h₁ at.handed (r.handed - at.handed)) then 1 else x) (q.stays.stops p lp ∙ T.before.stops.stop p lp)
               ∙ ap (λ (x : List ℕ). if member p x then 1 else one (member p B)) h_part
               ∙ both p
               ∙ ap (λ (x : List ℕ). one (member p x)) (sym before_is)
@@ -215,22 +220,21 @@ module _ (c : GraphCounts) (ws os ds rs w l h t : List ℕ) (at : Run) (upper d 
           next-left = s.members ∙ (λ i. over remove (left₁ i) (t_part i))
             where
               left₁ : part w₁ (8 * (c.pins + 1)) at.left ≡ part w (8 * (c.pins + 1)) at.left
-              left₁ = Rattle.laws.proofs.Words.part_same w₁ w (8 * (c.pins + 1)) at.left (omega (arith, (got q).3.long, T.idle.lefts.long, T.idle.lefts.few))
-                  (omega (arith, T.idle.lefts.long, T.idle.lefts.few)) (λ j lj uj. (got q).3.rest j lj)
+              left₁ = Rattle.laws.proofs.Words.part_same w₁ w (8 * (c.pins + 1)) at.left (omega (arith, q.stays.long, T.idle.lefts.long, T.idle.lefts.few))
+                  (omega (arith, T.idle.lefts.long, T.idle.lefts.few)) (λ j lj uj. q.stays.rest j lj)
 
-          more_by : (l₁ : List ℕ) (n : ℕ) (ok : Bool) (x : Step) → x.left ≡ left → x.rows ≡ n → x.handed ≡ r.handed → x.taken ≡ r.taken → x.read ≡ (0 <? r.listed) → x.last ≡ false → x.fits ≡ ok
-              → Pushing l at.rows (at.lower ∷ upper ∷ (r.handed - at.handed) ∷ (r.taken - at.taken) ∷ []) l₁ n ok → Turned c ws os ds rs w l h t at upper d w₂ l₁ h₁ t₁ x
-          more_by l₁ n ok x el en eh et xr xl xf (pushed p e) = goes_on (was_read x xr) some_handed
-              (subst (Pushed h at.handed S.handed h₁) (sym eh) ph) (subst (Pushed t at.taken S.taken t₁) (sym et) pt)
-              (subst (Pushed l at.rows (at.lower ∷ upper ∷ length S.handed ∷ length S.taken ∷ []) l₁) (sym en)
-              (subst (λ (k : ℕ). Pushed l at.rows (at.lower ∷ upper ∷ length S.handed ∷ k ∷ []) l₁ n) count_is
-              (subst (λ (k : ℕ). Pushed l at.rows (at.lower ∷ upper ∷ k ∷ (r.taken - at.taken) ∷ []) l₁ n) pins_is p)))
-              (subst (Idle ws (c.pins + 1) (endpoints c) w₂) (sym el) next_idle)
-              (ap (part w₂ (8 * (c.pins + 1))) el ∙ next-left)
-              (subst (Before (c.pins + 1) w₂ h₁) (sym eh) next-before)
-              (s.long ∙ (got q).3.long) xl (xf ∙ e)
-          more_by l₁ n ok x el en eh et xr xl xf (full a b e) = narrow (was_read x xr) (inl a) (s.long ∙ (got q).3.long) b ph.long pt.long (xf ∙ e)
-
-          pub turn_more : (l₁ : List ℕ) (n : ℕ) (ok : Bool) (x : Step) → x.left ≡ left → x.rows ≡ n → x.handed ≡ r.handed → x.taken ≡ r.taken → x.read ≡ (0 <? r.listed) → x.last ≡ false → x.fits ≡ ok
-              → Pushing l at.rows (at.lower ∷ upper ∷ (r.handed - at.handed) ∷ (r.taken - at.taken) ∷ []) l₁ n ok → Turned c ws os ds rs w l h t at upper d w₂ l₁ h₁ t₁ x
-          turn_more = more_by
+          pub turn_more : (l₁ : List ℕ) (n : ℕ) → Pushed l at.rows (at.lower ∷ upper ∷ (r.handed - at.handed) ∷ (r.taken - at.taken) ∷ []) l₁ n
+              → GoesOn c ws os ds rs w l h t at upper d w₂ l₁ h₁ t₁ (record { lower = upper; left = left; rows = n; handed = r.handed; taken = r.taken })
+          turn_more l₁ n p = record {
+            read = some_read;
+            some_handed = some_handed;
+            handed = ph;
+            taken = pt;
+            rows = subst (λ (k : ℕ). Pushed l at.rows (at.lower ∷ upper ∷ length S.handed ∷ k ∷ []) l₁ n) count_is
+                (subst (λ (k : ℕ). Pushed l at.rows (at.lower ∷ upper ∷ k ∷ (r.taken - at.taken) ∷ []) l₁ n) pins_is p);
+            lower = refl;
+            idle = next_idle;
+            left = next-left;
+            before = next-before;
+            work_long = s.long ∙ q.stays.long;
+          }

@@ -1,9 +1,11 @@
 -- One stage: where it begins and what it leaves.
-use Rattle.std.specs.Prelude.{Some, ◌≡◌, ◌⊎◌, true, false, List, [], ◌∷◌, ℕ, ◌+◌, ◌*◌, ◌<◌, ◌≤◌, length}
+use Rattle.std.specs.Prelude.{Some, Result, Ok, Err, ◌≡◌, ◌⊎◌, true, false, List, [], ◌∷◌, ℕ, ◌+◌, ◌*◌, ◌<◌, ◌≤◌, length}
 use Rattle.laws.specs.Lists.{count, over, is_nil}
 use Rattle.laws.specs.Sets.{remove}
 use Rattle.laws.specs.Words.{part}
 use Rattle.rules.specs.declared.GraphCounts.{GraphCounts}
+use Rattle.rules.specs.declared.Refusal.{Refusal}
+use Rattle.rules.specs.declared.Refusal.TheVariants.{NothingRead, Room}
 use Rattle.rules.specs.Tables.{graph_in, end_marker}
 use Rattle.rules.specs.Stages.{Stage, split}
 use Rattle.rules.specs.Refusals.{something_read}
@@ -14,7 +16,9 @@ use Rattle.picks.specs.Tables.{Open, Pushed}
 use Rattle.splits.specs.State.{Idle}
 use Rattle.asked.specs.Answer.{Sound}
 use Rattle.turns.specs.declared.Run.{Run}
+use Rattle.turns.specs.declared.Plan.{Plan}
 use Rattle.turns.specs.declared.Step.{Step}
+use Rattle.turns.specs.declared.Step.TheVariants.{More, Last}
 
 -- the pins handed on before are those of the table, and they are the stops
 pub record Before (m : ℕ) (w h : List ℕ) (n : ℕ) : Type 0 where
@@ -35,28 +39,45 @@ pub record Turn (c : GraphCounts) (ws os ds rs w l h t : List ℕ) (at : Run) : 
 unfoldable pub stage_in : GraphCounts → List ℕ → List ℕ → List ℕ → List ℕ → List ℕ → List ℕ → Run → ℕ → Stage
 stage_in c ws os ds rs w h at d = split (graph_in c (words_of ws os ds rs)) (part w (8 * (c.pins + 1)) at.left) (part h 0 at.handed) (Some d)
 
--- what is read is a pin other than 0
-pub record Read (c : GraphCounts) (ws os ds rs w : List ℕ) (at : Run) (r : Step) : Type 0 where
-  pub read : r.read ≡ something_read (graph_in c (words_of ws os ds rs)) (part w (8 * (c.pins + 1)) at.left)
+-- the last stage: it hands nothing on
+pub record Ended (c : GraphCounts) (ws os ds rs w l h t : List ℕ) (at : Run) (d : ℕ) (w' l' h' t' : List ℕ) (r : Plan) : Type 0 where
+  pub read : something_read (graph_in c (words_of ws os ds rs)) (part w (8 * (c.pins + 1)) at.left) ≡ true
+  pub none_handed : (stage_in c ws os ds rs w h at d).handed ≡ []
+  pub handed : Pushed h at.handed (stage_in c ws os ds rs w h at d).handed h' r.handed
+  pub taken : Pushed t at.taken (stage_in c ws os ds rs w h at d).taken t' r.taken
+  pub rows : Pushed l at.rows (at.lower ∷ end_marker ∷ 0 ∷ length (stage_in c ws os ds rs w h at d).taken ∷ []) l' r.rows
+  pub work_long : length w' ≡ length w
 
-pub data Turned (c : GraphCounts) (ws os ds rs w l h t : List ℕ) (at : Run) (upper d : ℕ) (w' l' h' t' : List ℕ) (r : Step) : Type 0 where
-  ended : Read c ws os ds rs w at r
-      → (stage_in c ws os ds rs w h at d).handed ≡ []
-      → Pushed h at.handed (stage_in c ws os ds rs w h at d).handed h' r.handed
-      → Pushed t at.taken (stage_in c ws os ds rs w h at d).taken t' r.taken
-      → Pushed l at.rows (at.lower ∷ end_marker ∷ 0 ∷ length (stage_in c ws os ds rs w h at d).taken ∷ []) l' r.rows
-      → length w' ≡ length w → r.last ≡ true → r.fits ≡ true → Turned c ws os ds rs w l h t at upper d w' l' h' t' r
-  goes_on : Read c ws os ds rs w at r
-      → is_nil (stage_in c ws os ds rs w h at d).handed ≡ false
-      → Pushed h at.handed (stage_in c ws os ds rs w h at d).handed h' r.handed
-      → Pushed t at.taken (stage_in c ws os ds rs w h at d).taken t' r.taken
-      → Pushed l at.rows (at.lower ∷ upper ∷ length (stage_in c ws os ds rs w h at d).handed ∷ length (stage_in c ws os ds rs w h at d).taken ∷ []) l' r.rows
-      → Idle ws (c.pins + 1) (endpoints c) w' r.left
-      → part w' (8 * (c.pins + 1)) r.left ≡ over remove (part w (8 * (c.pins + 1)) at.left) (stage_in c ws os ds rs w h at d).taken
-      → Before (c.pins + 1) w' h' r.handed
-      → length w' ≡ length w → r.last ≡ false → r.fits ≡ true → Turned c ws os ds rs w l h t at upper d w' l' h' t' r
-  narrow : Read c ws os ds rs w at r
+-- any other stage, and where the next one begins
+pub record GoesOn (c : GraphCounts) (ws os ds rs w l h t : List ℕ) (at : Run) (upper d : ℕ) (w' l' h' t' : List ℕ) (r : Run) : Type 0 where
+  pub read : something_read (graph_in c (words_of ws os ds rs)) (part w (8 * (c.pins + 1)) at.left) ≡ true
+  pub some_handed : is_nil (stage_in c ws os ds rs w h at d).handed ≡ false
+  pub handed : Pushed h at.handed (stage_in c ws os ds rs w h at d).handed h' r.handed
+  pub taken : Pushed t at.taken (stage_in c ws os ds rs w h at d).taken t' r.taken
+  pub rows : Pushed l at.rows (at.lower ∷ upper ∷ length (stage_in c ws os ds rs w h at d).handed ∷ length (stage_in c ws os ds rs w h at d).taken ∷ []) l' r.rows
+  pub lower : r.lower ≡ upper
+  pub idle : Idle ws (c.pins + 1) (endpoints c) w' r.left
+  pub left : part w' (8 * (c.pins + 1)) r.left ≡ over remove (part w (8 * (c.pins + 1)) at.left) (stage_in c ws os ds rs w h at d).taken
+  pub before : Before (c.pins + 1) w' h' r.handed
+  pub work_long : length w' ≡ length w
+
+-- why there is no stage: nothing is read, or a table has too little room
+pub data Unmade (c : GraphCounts) (ws os ds rs w l h t : List ℕ) (at : Run) (d : ℕ) (e : Refusal) : Type 0 where
+  nothing : something_read (graph_in c (words_of ws os ds rs)) (part w (8 * (c.pins + 1)) at.left) ≡ false → e ≡ NothingRead → Unmade c ws os ds rs w l h t at d e
+  narrow : something_read (graph_in c (words_of ws os ds rs)) (part w (8 * (c.pins + 1)) at.left) ≡ true
       → (length l < at.rows + 4)
       ⊎ ((length h < at.handed + length (stage_in c ws os ds rs w h at d).handed) ⊎ (length t < at.taken + length (stage_in c ws os ds rs w h at d).taken))
-      → length w' ≡ length w → length l' ≡ length l → length h' ≡ length h → length t' ≡ length t → r.fits ≡ false
-      → Turned c ws os ds rs w l h t at upper d w' l' h' t' r
+      → e ≡ Room → Unmade c ws os ds rs w l h t at d e
+
+pub record Stopped (c : GraphCounts) (ws os ds rs w l h t : List ℕ) (at : Run) (d : ℕ) (w' l' h' t' : List ℕ) (e : Refusal) : Type 0 where
+  pub why : Unmade c ws os ds rs w l h t at d e
+  pub work_long : length w' ≡ length w
+  pub rows_long : length l' ≡ length l
+  pub handed_long : length h' ≡ length h
+  pub taken_long : length t' ≡ length t
+
+-- what a stage leaves
+abbrev pub Turned : GraphCounts → List ℕ → List ℕ → List ℕ → List ℕ → List ℕ → List ℕ → List ℕ → List ℕ → Run → ℕ → ℕ → List ℕ → List ℕ → List ℕ → List ℕ → Result Step Refusal → Type 0
+Turned c ws os ds rs w l h t at upper d w' l' h' t' (Ok (Last r)) = Ended c ws os ds rs w l h t at d w' l' h' t' r
+Turned c ws os ds rs w l h t at upper d w' l' h' t' (Ok (More r)) = GoesOn c ws os ds rs w l h t at upper d w' l' h' t' r
+Turned c ws os ds rs w l h t at upper d w' l' h' t' (Err e) = Stopped c ws os ds rs w l h t at d w' l' h' t' e

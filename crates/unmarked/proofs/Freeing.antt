@@ -1,13 +1,12 @@
 -- The test for markers, in the code's shape.
 use mathlib.Core.Path.{◌≡◌, refl, sym, ◌∙◌, ap, ap₂}
-use mathlib.Core.Bool.{Bool, true, false, ◌&&◌, ◌||◌}
+use mathlib.Core.Bool.{Bool, true, false, not, ◌&&◌}
 use mathlib.Core.List.{List, [], ◌∷◌}
-use Prim.Native.Nat.{ℕ, zero, suc, ◌+◌, ◌-◌, ◌*◌, ◌<◌, ◌≤◌}
+use Prim.Native.Nat.{ℕ, ◌+◌, ◌-◌, ◌*◌, ◌<◌, ◌≤◌}
 use native.Mathlib.Numerals.{add-one}
 use native.Mathlib.Omega.{arith}
 use lib.ListN.{length, get_or, take, drop}
 use lib.Seq.{drop-cons, drop-length}
-use borrow.Author.Tests.{eq-eqb, ne_eqb, eqb-true, eqb-false}
 use Rattle.std.specs.Prelude.{Option, None, Some, ◌==◌}
 use Rattle.laws.specs.Lists.{keep, every}
 use Rattle.laws.specs.Words.{part}
@@ -20,58 +19,6 @@ use Rattle.roles.specs.Reading.{tables, Fits, kind_at}
 use Rattle.roles.proofs.Fitting.{laid, entry_inside}
 use Rattle.markers.specs.Marks.{mark_word}
 use Rattle.unmarked.specs.Free.{Told, Span, free_if, cell_free}
-
--- ---- names
-pub or_here : (x a : ℕ) (b : Bool) → x ≡ a → true ≡ ((x == a) || b)
-or_here x a b e = rw (eq-eqb x a e)
-
-pub or_next : (x a : ℕ) (r b : Bool) → (x ≡ a → ⊥) → r ≡ b → r ≡ ((x == a) || b)
-or_next x a r b m e = rw (ne_eqb x a m) e
-
-or_assoc : (a b c : Bool) → (a || (b || c)) ≡ ((a || b) || c)
-or_assoc true b c = refl
-or_assoc false b c = refl
-
-module _ (k m : ℕ) where
-  abbrev by : ℕ → Bool
-  by j = must_be_logic (kind_at j) m
-
-  and_by_lem : (j : ℕ) → 0 < j → j < 6 → ((m == 1) || (m == 2)) ≡ by j
-  and_by_lem zero h l = absurd (omega arith)
-  and_by_lem (suc zero) h l = refl
-  and_by_lem (suc (suc zero)) h l = refl
-  and_by_lem (suc (suc (suc zero))) h l = refl
-  and_by_lem (suc (suc (suc (suc zero)))) h l = refl
-  and_by_lem (suc (suc (suc (suc (suc zero))))) h l = refl
-  and_by_lem (suc (suc (suc (suc (suc (suc j)))))) h l = absurd (omega arith)
-
-  pub logic_and : (k ≡ 0 → ⊥) → k < 6 → (r : Bool) → r ≡ ((m == 1) || (m == 2)) → r ≡ must_be_logic (kind_at k) m
-  logic_and z l r e = e ∙ and_by_lem k (omega (arith, z)) l
-
-  pub logic_none : 6 ≤ k → k < 8 → false ≡ must_be_logic (kind_at k) m
-  logic_none a b = by_test (k == 6)
-      (λ t. sym (ap by (eqb-true k 6 t)))
-      (λ f. let q : k ≡ 7 = omega (arith, a, b, eqb-false k 6 f) in sym (ap by q))
-
-  pub logic_flop : 8 ≤ k → k < 10 → (r : Bool) → r ≡ ((m == 4) || ((m == 6) || (m == 7))) → r ≡ must_be_logic (kind_at k) m
-  logic_flop a b r e = by_test (k == 8)
-      (λ t. e ∙ or_assoc (m == 4) (m == 6) (m == 7) ∙ sym (ap by (eqb-true k 8 t)))
-      (λ f. let q : k ≡ 9 = omega (arith, a, b, eqb-false k 8 f) in e ∙ or_assoc (m == 4) (m == 6) (m == 7) ∙ sym (ap by q))
-
-  pub logic_gate : k ≡ 10 → (m == 9) ≡ must_be_logic (kind_at k) m
-  logic_gate e = sym (ap by e)
-
-  pub logic_ram : k ≡ 11 → (r : Bool) → r ≡ ((m == 10) || ((m == 13) || ((m == 15) || (m == 16)))) → r ≡ must_be_logic (kind_at k) m
-  logic_ram e r er = er ∙ or_assoc (m == 10) (m == 13) ((m == 15) || (m == 16)) ∙ or_assoc ((m == 10) || (m == 13)) (m == 15) (m == 16) ∙ sym (ap by e)
-
-  past : (j : ℕ) → false ≡ by (suc (suc (suc (suc (suc (suc (suc (suc (suc (suc (suc (suc j))))))))))))
-  past zero = refl
-  past (suc j) = refl
-
-  pub logic_past : 10 ≤ k → (k ≡ 10 → ⊥) → (k ≡ 11 → ⊥) → false ≡ must_be_logic (kind_at k) m
-  logic_past a b d =
-      let q : k ≡ suc (suc (suc (suc (suc (suc (suc (suc (suc (suc (suc (suc (k - 12)))))))))))) = omega (arith, a, b, d) in
-      past (k - 12) ∙ sym (ap by q)
 
 -- ---- a pin
 none_word : (x : Option Bool) → (mark_word x == 0) ≡ is_none x
@@ -86,9 +33,9 @@ module _ (kinds starts list pins nets w : List ℕ) (k p m : ℕ) (b : Bool) (em
   tested : must_be_logic (kind_at k) (name_of n p) ≡ b
   tested = sym (eb ∙ ap (must_be_logic (kind_at k)) em)
 
-  pub free_not_asked : b ≡ false → true ≡ free_if (tables kinds starts list pins nets) (kind_at k) p
+  pub free_not_asked : b ≡ false → not b ≡ free_if (tables kinds starts list pins nets) (kind_at k) p
   unfolding free_if
-  free_not_asked t = rw (tested ∙ t)
+  free_not_asked t = rw (tested ∙ t, t)
 
   pub free_by_word : b ≡ true → Told (tables kinds starts list pins nets) w → p < length list → (get_or w (length list + p) 0 == 0) ≡ free_if (tables kinds starts list pins nets) (kind_at k) p
   unfolding free_if

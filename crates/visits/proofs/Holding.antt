@@ -1,6 +1,5 @@
 -- What the words hold after an entry is made: one law for each sort of entry.
 use mathlib.Core.Path.{◌≡◌, refl, sym, ap, subst, ◌∙◌}
-use mathlib.Core.Bool.{true, false}
 use mathlib.Core.List.{List, [], ◌∷◌, ◌++◌}
 use Prim.Native.Nat.{ℕ, suc, ◌+◌, ◌*◌, ◌≤◌, ◌<◌}
 use native.Mathlib.Omega.{arith}
@@ -8,7 +7,7 @@ use native.Mathlib.Numerals.{add-one}
 use lib.ListN.{length, get_or, set, length-set, length-append}
 use lib.Seq.{get_or-set_same, get_or-set_other}
 use borrow.Author.Tests.{eq-eqb, ne_eqb, eqb-true, eqb-false, leb-true, leb-false}
-use Rattle.std.specs.Prelude.{◌==◌}
+use Rattle.std.specs.Prelude.{◌==◌, Option, Some, None}
 use Rattle.laws.specs.Tests.{◌≤?◌, one}
 use Rattle.laws.specs.Lists.{member, count}
 use Rattle.laws.specs.Sets.{insert}
@@ -31,7 +30,6 @@ use Rattle.rules.proofs.Tables.{clash}
 use Rattle.drivers.proofs.Rows.{drivers_long_lem, one-longer}
 use Rattle.tallies.specs.Counted.{output_counted, dff_counted, ram_counted}
 use Rattle.orders.specs.State.{event_of}
-use Rattle.drafts.specs.declared.Counted.{Counted}
 use Rattle.drafts.specs.Table.{Table, drafted, SameEnds}
 use Rattle.drafts.specs.Layout.{index_at, number_in, Written}
 use Rattle.drafts.proofs.Steps.{table_store}
@@ -94,10 +92,10 @@ module _ (n : Netlist) (acc : tables_number n ≡ 0) where
 
     -- ---- a pin takes a literal
     module _ (p : ℕ) (lp : p < size n) (k : Made) (os : List ℕ) (ls : Listed rm os b) where
-      pub left_moves : (w' ws' : List ℕ) (r : Counted) → Left (index_at (size n) rm.pins) (size n) p k w ws t w' ws' r
+      pub left_moves : (w' ws' : List ℕ) (r : Option Tally) → Left (index_at (size n) rm.pins) (size n) p k w ws t w' ws' r
           → Moved n rm (with_lit b p k.drivers k.lit) w ws os w' ws' os r
-      left_moves w' ws' r (left e tb dr se ex lt lw) = moved e
-          (again w' ws' r.tally (with_lit b p k.drivers k.lit) tb lw dr
+      left_moves w' ws' r (left u e tb dr se ex lt lw) = moved u e
+          (again w' ws' u (with_lit b p k.drivers k.lit) tb lw dr
           (record {
             lits = λ q lq. put_by (λ (x : ℕ) (v : ℕ). get_or w' (7 * size n + x) 0 ≡ v) b.lits p k.lit q
                 (λ same. ap (word_at w' (size n)) same ∙ lt)
@@ -174,20 +172,20 @@ module _ (n : Netlist) (acc : tables_number n ≡ 0) where
         listed = record { fits = ls.fits; words = ls.words }
 
         -- its record has a number already
-        flop_old : (number_in b.flops c ≡ 0 → ⊥) → (w' : List ℕ) (r : Counted) → w' ≡ numbered own (6 * size n + start_of n c) u.dffs
+        flop_old : (number_in b.flops c ≡ 0 → ⊥) → (w' : List ℕ) (r : Option Tally) → w' ≡ numbered own (6 * size n + start_of n c) u.dffs
             → r ≡ flops_counted u (counted own (6 * size n + start_of n c) u.dffs) rm.dffs → Moved n rm after w ws os w' ws' os r
         flop_old ne w' r ew er =
             let z = ne_eqb (get_or own (6 * size n + start_of n c) 0) 0 (λ q. ne (sym number-before ∙ q)) in
             let ew' : w' ≡ own = ew ∙ rw z in
-            let er' : r ≡ record { fits = true; tally = u } = er ∙ rw (z, eq-eqb u.dffs u.dffs refl) in
+            let er' : r ≡ Some u = er ∙ rw (z, eq-eqb u.dffs u.dffs refl) in
             subst (λ (x : List ℕ). Moved n rm after w ws os x ws' os r) (sym ew')
-            (subst (λ (x : Counted). Moved n rm after w ws os own ws' os x) (sym er')
-            (moved refl
+            (subst (λ (x : Option Tally). Moved n rm after w ws os own ws' os x) (sym er')
+            (moved u refl
             (flop_holds own u own_long own-table refl (λ j k. refl) (number-before ∙ sym (number_old b.flops c ne)) refl
             (se.dffs ∙ d.dffs ∙ sym (longer_old b.flops c ne)) refl (omega (arith, se.dffs, d.dffs_fit)))
             listed own_long))
 
-        flop_new : number_in b.flops c ≡ 0 → (w' : List ℕ) (r : Counted) → w' ≡ numbered own (6 * size n + start_of n c) u.dffs
+        flop_new : number_in b.flops c ≡ 0 → (w' : List ℕ) (r : Option Tally) → w' ≡ numbered own (6 * size n + start_of n c) u.dffs
             → r ≡ flops_counted u (counted own (6 * size n + start_of n c) u.dffs) rm.dffs → Moved n rm after w ws os w' ws' os r
         flop_new none w' r ew er =
             let z = eq-eqb (get_or own (6 * size n + start_of n c) 0) 0 (number-before ∙ none) in
@@ -196,11 +194,11 @@ module _ (n : Netlist) (acc : tables_number n ≡ 0) where
             let long' : length w' ≡ length w = ap length ew' ∙ length-set own (6 * size n + start_of n c) (u.dffs + 1) ∙ own_long in
             let ne = ne_eqb (u.dffs + 1) u.dffs (λ q. omega (arith, q)) in
             by_test (rm.dffs ≤? u.dffs)
-            (λ y. let er' : r ≡ record { fits = false; tally = u } = er ∙ rw (z, ne, y) in
-            stuck (ap (λ (x : Counted). x.fits) er') (dffs_over (omega (arith, leb-true rm.dffs u.dffs y, more, se.dffs, d.dffs))) long' lws refl)
-            (λ f. let er' : r ≡ record { fits = true; tally = dff_counted u } = er ∙ rw (z, ne, f) in
-            subst (λ (x : Counted). Moved n rm after w ws os w' ws' os x) (sym er')
-            (moved refl
+            (λ y. let er' : r ≡ None = er ∙ rw (z, ne, y) in
+            stuck er' (dffs_over (omega (arith, leb-true rm.dffs u.dffs y, more, se.dffs, d.dffs))) long' lws refl)
+            (λ f. let er' : r ≡ Some (dff_counted u) = er ∙ rw (z, ne, f) in
+            subst (λ (x : Option Tally). Moved n rm after w ws os w' ws' os x) (sym er')
+            (moved (dff_counted u) refl
             (flop_holds w' (dff_counted u) long'
             (subst (λ (x : List ℕ). Table (index_at (size n) rm.pins) x ws' (dff_counted u)) (sym ew') (recounted
             (table_store at own ws' u (6 * size n + start_of n c) (u.dffs + 1) (omega (arith, start-low)) own-table)))
@@ -215,7 +213,7 @@ module _ (n : Netlist) (acc : tables_number n ≡ 0) where
             recounted : {x : List ℕ} → Table (index_at (size n) rm.pins) x ws' u → Table (index_at (size n) rm.pins) x ws' (dff_counted u)
             recounted h = record { ready = h.ready; gates = h.gates; few = h.few }
 
-      pub flop_moves : (w' ws' : List ℕ) (r : Counted) → FlopMade (size n) (index_at (size n) rm.pins) rm.dffs c (start_of n c) w ws t w' ws' r
+      pub flop_moves : (w' ws' : List ℕ) (r : Option Tally) → FlopMade (size n) (index_at (size n) rm.pins) rm.dffs c (start_of n c) w ws t w' ws' r
           → Moved n rm (entering b (dff_out c)) w ws os w' ws' os r
       flop_moves w' ws' r (no_flop e l ew lws) =
           stuck e (pins_over (omega (arith, l, d.long, one-longer (drafted ws t) (Dff c), one-longer b.drivers (Dff c), ap length d.drivers))) (ap length ew) lws refl
@@ -273,20 +271,20 @@ module _ (n : Netlist) (acc : tables_number n ≡ 0) where
         ram_listed_too : Listed rm os (leaving n b p (ram_out c x))
         ram_listed_too = record { fits = ls.fits; words = ls.words }
 
-        ram_old : (number_in b.rams c ≡ 0 → ⊥) → (w' : List ℕ) (r : Counted) → w' ≡ numbered read (6 * size n + start_of n c) u.rams
+        ram_old : (number_in b.rams c ≡ 0 → ⊥) → (w' : List ℕ) (r : Option Tally) → w' ≡ numbered read (6 * size n + start_of n c) u.rams
             → r ≡ rams_counted u (counted read (6 * size n + start_of n c) u.rams) rm.rams → Moved n rm (leaving n b p (ram_out c x)) w ws os w' ws' os r
         ram_old ne w' r ew er =
             let z = ne_eqb (get_or read (6 * size n + start_of n c) 0) 0 (λ q. ne (sym ram_before ∙ q)) in
             let ew' : w' ≡ read = ew ∙ rw z in
-            let er' : r ≡ record { fits = true; tally = u } = er ∙ rw (z, eq-eqb u.rams u.rams refl) in
+            let er' : r ≡ Some u = er ∙ rw (z, eq-eqb u.rams u.rams refl) in
             subst (λ (y : List ℕ). Moved n rm (leaving n b p (ram_out c x)) w ws os y ws' os r) (sym ew')
-            (subst (λ (y : Counted). Moved n rm (leaving n b p (ram_out c x)) w ws os read ws' os y) (sym er')
-            (moved refl
+            (subst (λ (y : Option Tally). Moved n rm (leaving n b p (ram_out c x)) w ws os read ws' os y) (sym er')
+            (moved u refl
             (ram_holds read u read_long read_table refl (λ j k. refl) (ram_before ∙ sym (number_old b.rams c ne)) refl refl
             (se.rams ∙ d.rams ∙ sym (longer_old b.rams c ne)) (omega (arith, se.rams, d.rams_fit)))
             ram_listed_too read_long))
 
-        ram_new : number_in b.rams c ≡ 0 → (w' : List ℕ) (r : Counted) → w' ≡ numbered read (6 * size n + start_of n c) u.rams
+        ram_new : number_in b.rams c ≡ 0 → (w' : List ℕ) (r : Option Tally) → w' ≡ numbered read (6 * size n + start_of n c) u.rams
             → r ≡ rams_counted u (counted read (6 * size n + start_of n c) u.rams) rm.rams → Moved n rm (leaving n b p (ram_out c x)) w ws os w' ws' os r
         ram_new none w' r ew er =
             let z = eq-eqb (get_or read (6 * size n + start_of n c) 0) 0 (ram_before ∙ none) in
@@ -295,11 +293,11 @@ module _ (n : Netlist) (acc : tables_number n ≡ 0) where
             let long' : length w' ≡ length w = ap length ew' ∙ length-set read (6 * size n + start_of n c) (u.rams + 1) ∙ read_long in
             let ne = ne_eqb (u.rams + 1) u.rams (λ q. omega (arith, q)) in
             by_test (rm.rams ≤? u.rams)
-            (λ y. let er' : r ≡ record { fits = false; tally = u } = er ∙ rw (z, ne, y) in
-            stuck (ap (λ (v : Counted). v.fits) er') (rams_over (omega (arith, leb-true rm.rams u.rams y, more, se.rams, d.rams))) long' lws refl)
-            (λ f. let er' : r ≡ record { fits = true; tally = ram_counted u } = er ∙ rw (z, ne, f) in
-            subst (λ (y : Counted). Moved n rm (leaving n b p (ram_out c x)) w ws os w' ws' os y) (sym er')
-            (moved refl
+            (λ y. let er' : r ≡ None = er ∙ rw (z, ne, y) in
+            stuck er' (rams_over (omega (arith, leb-true rm.rams u.rams y, more, se.rams, d.rams))) long' lws refl)
+            (λ f. let er' : r ≡ Some (ram_counted u) = er ∙ rw (z, ne, f) in
+            subst (λ (y : Option Tally). Moved n rm (leaving n b p (ram_out c x)) w ws os w' ws' os y) (sym er')
+            (moved (ram_counted u) refl
             (ram_holds w' (ram_counted u) long'
             (subst (λ (y : List ℕ). Table (index_at (size n) rm.pins) y ws' (ram_counted u)) (sym ew') (recounted
             (table_store at read ws' u (6 * size n + start_of n c) (u.rams + 1) (omega (arith, ram_low)) read_table)))
@@ -314,7 +312,7 @@ module _ (n : Netlist) (acc : tables_number n ≡ 0) where
             recounted : {y : List ℕ} → Table (index_at (size n) rm.pins) y ws' u → Table (index_at (size n) rm.pins) y ws' (ram_counted u)
             recounted h = record { ready = h.ready; gates = h.gates; few = h.few }
 
-      pub ram_moves : (w' ws' : List ℕ) (r : Counted) → RamMade (size n) (index_at (size n) rm.pins) rm.rams c (start_of n c) p w ws t w' ws' r
+      pub ram_moves : (w' ws' : List ℕ) (r : Option Tally) → RamMade (size n) (index_at (size n) rm.pins) rm.rams c (start_of n c) p w ws t w' ws' r
           → Moved n rm (leaving n b p (ram_out c x)) w ws os w' ws' os r
       ram_moves w' ws' r (no_ram_lem e l ew lws) =
           stuck e (pins_over (omega (arith, l, d.long, one-longer (drafted ws t) (Ram c), one-longer b.drivers (Ram c), ap length d.drivers))) (ap length ew) lws refl
@@ -366,20 +364,20 @@ module _ (n : Netlist) (acc : tables_number n ≡ 0) where
       marks_old : (k : ℕ) → k < 2 * rm.pins + 2 → get_or taken (8 * size n + k) 0 ≡ one (member k b.outs)
       marks_old k h = get_or-set_other w (7 * size n + p) (8 * size n + k) (b.lits q) 0 (λ z. omega (arith, lp, z)) ∙ d.marked k h
 
-      pub output_moves : (w' os' : List ℕ) (r : Counted) → OutputMade (size n) p (b.lits q) w os t w' os' r → Moved n rm (leaving n b p (out_port q)) w ws os w' ws os' r
+      pub output_moves : (w' os' : List ℕ) (r : Option Tally) → OutputMade (size n) p (b.lits q) w os t w' os' r → Moved n rm (leaving n b p (out_port q)) w ws os w' ws os' r
       output_moves w' os' r (known ne er ew eo) =
           let there : 0 < count (b.lits q) b.outs = member_true (b.lits q) b.outs (one_set (member (b.lits q) b.outs) (λ z. ne (taken_mark ∙ z))) in
           let same : insert b.outs (b.lits q) ≡ b.outs = insert_old b.outs (b.lits q) there in
-          subst (λ (y : Counted). Moved n rm (leaving n b p (out_port q)) w ws os w' ws os' y) (sym er)
-          (subst (λ (y : List ℕ). Moved n rm (leaving n b p (out_port q)) w ws os y ws os' (record { fits = true; tally = t })) (sym ew)
-          (moved refl
+          subst (λ (y : Option Tally). Moved n rm (leaving n b p (out_port q)) w ws os w' ws os' y) (sym er)
+          (subst (λ (y : List ℕ). Moved n rm (leaving n b p (out_port q)) w ws os y ws os' (Some t)) (sym ew)
+          (moved t refl
           (out_holds taken t taken_table refl (λ j h. refl)
           (λ k h. marks_old k h ∙ ap (λ (y : List ℕ). one (member k y)) (sym same)) (d.outputs ∙ ap length (sym same)) refl refl)
           (record { fits = omega (arith, ls.fits, ap length same); words = eo ∙ ls.words ∙ ap (λ (y : List ℕ). filled y rm.outputs) (sym same) }) taken_long))
       output_moves w' os' r (no_output z le er ew eo) =
           let absent : count (b.lits q) b.outs ≡ 0 = member_false (b.lits q) b.outs (one_zero (member (b.lits q) b.outs) (sym taken_mark ∙ z)) in
           let grows : length (insert b.outs (b.lits q)) ≡ length b.outs + 1 = ap length (insert_new b.outs (b.lits q) absent) ∙ length-append b.outs (b.lits q ∷ []) in
-          stuck (ap (λ (y : Counted). y.fits) er)
+          stuck er
           (outputs_over (omega (arith, le, d.outputs, grows, ap length ls.words, filled-length b.outs rm.outputs ls.fits)))
           (ap length ew ∙ taken_long) refl (ap length eo)
       output_moves w' os' r (new z lt er ew eo) =
@@ -387,9 +385,9 @@ module _ (n : Netlist) (acc : tables_number n ≡ 0) where
           let more : insert b.outs (b.lits q) ≡ b.outs ++ (b.lits q ∷ []) = insert_new b.outs (b.lits q) absent in
           let grows : length (insert b.outs (b.lits q)) ≡ length b.outs + 1 = ap length more ∙ length-append b.outs (b.lits q ∷ []) in
           let room : length b.outs < rm.outputs = omega (arith, lt, d.outputs, ap length ls.words, filled-length b.outs rm.outputs ls.fits) in
-          subst (λ (y : Counted). Moved n rm (leaving n b p (out_port q)) w ws os w' ws os' y) (sym er)
-          (subst (λ (y : List ℕ). Moved n rm (leaving n b p (out_port q)) w ws os y ws os' (record { fits = true; tally = output_counted t })) (sym ew)
-          (moved refl
+          subst (λ (y : Option Tally). Moved n rm (leaving n b p (out_port q)) w ws os w' ws os' y) (sym er)
+          (subst (λ (y : List ℕ). Moved n rm (leaving n b p (out_port q)) w ws os y ws os' (Some (output_counted t))) (sym ew)
+          (moved (output_counted t) refl
           (out_holds (set taken (8 * size n + b.lits q) 1) (output_counted t)
           (recounted (table_store at taken ws t (8 * size n + b.lits q) 1 (omega (arith, low)) taken_table)) refl
           (λ j h. get_or-set_other taken (8 * size n + b.lits q) j 1 0 (λ y. omega (arith, h, y)))

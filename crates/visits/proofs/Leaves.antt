@@ -1,6 +1,6 @@
 -- A pin is left, in the code's shape: one law for each way.
 use mathlib.Core.Path.{◌≡◌, refl, sym, ap, subst, ◌∙◌}
-use mathlib.Core.Bool.{Bool, true}
+use mathlib.Core.Bool.{Bool}
 use mathlib.Core.List.{List, [], ◌∷◌, ◌++◌}
 use Prim.Native.Nat.{ℕ, ◌+◌, ◌*◌, ◌≤◌, ◌<◌}
 use native.Mathlib.Omega.{arith}
@@ -23,7 +23,7 @@ use Rattle.rules.proofs.Roles.{visit_fits, dff_words, ram_words_lem}
 use Rattle.roles.specs.Reading.{tables, Fits, says}
 use Rattle.roles.specs.declared.PinRole.{PinRole}
 use Rattle.drivers.proofs.Rows.{drivers_long_lem}
-use Rattle.drafts.specs.declared.Counted.{Counted}
+use Rattle.std.specs.Prelude.{Option, Some}
 use Rattle.drafts.specs.Table.{Table, drafted, pushed, set_reset}
 use Rattle.drafts.specs.Layout.{index_at}
 use Rattle.drafts.proofs.Steps.{table_store, ends_refl}
@@ -31,7 +31,7 @@ use Rattle.literals.specs.Settled.{word_at, turned_made, Left, left}
 use Rattle.entries.specs.Made.{RamMade, OutputMade}
 use Rattle.visits.specs.declared.Leaving.{Leaving}
 use Rattle.visits.specs.declared.Leaving.TheVariants.{Take, Copy, Output, Input, And, Flop, Ram}
-use Rattle.visits.specs.Drafting.{own_pin, Stored, Drafting, Listed, Before, ready, Moved, event_at, state_at, leaving_of}
+use Rattle.visits.specs.Drafting.{own_pin, Stored, Drafting, Listed, Before, Moved, event_at, state_at, leaving_of}
 use Rattle.visits.proofs.Places.{pin_start, start-below}
 use Rattle.visits.proofs.Prefixes.{port_fits, own_fits, state_next}
 use Rattle.visits.proofs.Holding.{dff_listed, left_moves, ram_moves, output_moves}
@@ -39,8 +39,8 @@ use Rattle.visits.proofs.Sorts.{take-role, copy_role, output_role, input_role, a
 
 -- a literal is written and nothing is made
 left_taken : (at m p v : ℕ) (w ws : List ℕ) (t : Tally) → Table at w ws t → 7 * m + p < at
-    → Left at m p (record { drivers = drafted ws t; lit = v }) w ws t (set w (7 * m + p) v) ws (record { fits = true; tally = t })
-left_taken at m p v w ws t h l = left refl (table_store at w ws t (7 * m + p) v l h) refl (ends_refl t)
+    → Left at m p (record { drivers = drafted ws t; lit = v }) w ws t (set w (7 * m + p) v) ws (Some t)
+left_taken at m p v w ws t h l = left t refl (table_store at w ws t (7 * m + p) v l h) refl (ends_refl t)
     (record { long = length-set w (7 * m + p) v; same = λ j k ne. get_or-set_other w (7 * m + p) j v 0 ne })
     (get_or-set_same w (7 * m + p) v 0 (omega (arith, l, h.ready.wide))) refl
 
@@ -89,23 +89,22 @@ module _ (kinds starts list pins nets : List ℕ) (rm : Rooms) (w ws os : List �
   then_is : state_at n (i + 1) ≡ leaving n s p (role n p)
   then_is = state_next n i li ∙ ap (act n s) ev
 
-  abbrev Goal : List ℕ → List ℕ → List ℕ → Counted → Type 0
+  abbrev Goal : List ℕ → List ℕ → List ℕ → Option Tally → Type 0
   Goal w' ws' os' r = Moved (tables kinds starts list pins nets) rm (state_at (tables kinds starts list pins nets) (i + 1)) w ws os w' ws' os' r
 
   -- a literal is written, with what is made for it
-  with_lit_lem : (at : ℕ) (k : Made) (ds : List Driver) (l : ℕ) (w' ws' : List ℕ) (r : Counted) → at ≡ index_at (length list) rm.pins → k.drivers ≡ ds → k.lit ≡ l
+  with_lit_lem : (at : ℕ) (k : Made) (ds : List Driver) (l : ℕ) (w' ws' : List ℕ) (r : Option Tally) → at ≡ index_at (length list) rm.pins → k.drivers ≡ ds → k.lit ≡ l
       → state_at n (i + 1) ≡ with_lit s p ds l → Left at (length list) p k w ws t w' ws' r → Goal w' ws' os r
   with_lit_lem at k ds l w' ws' r ea ed el e f = subst (λ (b : Build). Moved n rm b w ws os w' ws' os r) (sym (e ∙ λ j. with_lit s p (sym ed j) (sym el j)))
       (left_moves n fit.accepted rm w ws t s d p lp k os ls w' ws' r (subst (λ (x : ℕ). Left x (length list) p k w ws t w' ws' r) ea f))
 
-  taken : (v : ℕ) (w' : List ℕ) (r : Counted) → state_at n (i + 1) ≡ with_lit s p s.drivers v → w' ≡ set w (7 * length list + p) v → r ≡ record { fits = true; tally = t } → Goal w' ws os r
-  taken v w' r e ew er' = subst (λ (x : Counted). Goal w' ws os x) (sym er')
-      (subst (λ (x : List ℕ). Goal x ws os (record { fits = true; tally = t })) (sym ew)
-      (with_lit_lem (index_at m rm.pins) (record { drivers = drafted ws t; lit = v }) s.drivers v (set w (7 * m + p) v) ws (record { fits = true; tally = t })
-      refl d.drivers refl e (left_taken (index_at m rm.pins) m p v w ws t d.table (omega (arith, lp)))))
+  taken : (v : ℕ) (w' : List ℕ) → state_at n (i + 1) ≡ with_lit s p s.drivers v → w' ≡ set w (7 * length list + p) v → Goal w' ws os (Some t)
+  taken v w' e ew = subst (λ (x : List ℕ). Goal x ws os (Some t)) (sym ew)
+      (with_lit_lem (index_at m rm.pins) (record { drivers = drafted ws t; lit = v }) s.drivers v (set w (7 * m + p) v) ws (Some t)
+      refl d.drivers refl e (left_taken (index_at m rm.pins) m p v w ws t d.table (omega (arith, lp))))
 
-  pub leave_take : (v : ℕ) → made ≡ Take v → (w' : List ℕ) (r : Counted) → r ≡ record { fits = true; tally = t } → w' ≡ set w (7 * length list + p) v → Goal w' ws os r
-  leave_take v e w' r er' ew = taken v w' r (then_is ∙ take-role n s p (role n p) v (sym left_is ∙ e)) ew er'
+  pub leave_take : (v : ℕ) → made ≡ Take v → (w' : List ℕ) → w' ≡ set w (7 * length list + p) v → Goal w' ws os (Some t)
+  leave_take v e w' ew = taken v w' (then_is ∙ take-role n s p (role n p) v (sym left_is ∙ e)) ew
 
   module _ (q : ℕ) (x : Bool) (e : made ≡ Copy q x) where
     copied : (leaving n s p (role n p) ≡ with_lit s p s.drivers (opposite_if x (s.lits q))) × (0 < count q (visits_of n (role n p)))
@@ -117,10 +116,9 @@ module _ (kinds starts list pins nets : List ℕ) (rm : Rooms) (w ws os : List �
     pub copy_in : 7 * length list + q < length w
     copy_in = omega (arith, copy_low, wide)
 
-    pub leave_copy : (lit : Literal) → lit.word ≡ opposite_if x (word_at w (length list) q) → (w' : List ℕ) (r : Counted) → r ≡ record { fits = true; tally = t }
-        → w' ≡ set w (7 * length list + p) lit.word → Goal w' ws os r
-    leave_copy lit el w' r er' ew = taken lit.word w' r
-        (then_is ∙ copied.0 ∙ ap (λ (v : ℕ). with_lit s p s.drivers v) (sym (el ∙ ap (opposite_if x) (d.written.lits q copy_low)))) ew er'
+    pub leave_copy : (lit : Literal) → lit.word ≡ opposite_if x (word_at w (length list) q) → (w' : List ℕ) → w' ≡ set w (7 * length list + p) lit.word → Goal w' ws os (Some t)
+    leave_copy lit el w' ew = taken lit.word w'
+        (then_is ∙ copied.0 ∙ ap (λ (v : ℕ). with_lit s p s.drivers v) (sym (el ∙ ap (opposite_if x) (d.written.lits q copy_low)))) ew
 
   module _ (q : ℕ) (e : made ≡ Output q) where
     is_port : role n p ≡ out_port q
@@ -141,13 +139,13 @@ module _ (kinds starts list pins nets : List ℕ) (rm : Rooms) (w ws os : List �
     pub output_in : (lit : Literal) → lit.word ≡ get_or w (7 * length list + q) 0 → 8 * length list + lit.word < length w
     output_in lit el = omega (arith, lit_is lit el, port_has, wide, drivers_long_lem ws t.pins, ap length d.drivers, d.table.ready.long, d.long)
 
-    pub leave_output : (lit : Literal) → lit.word ≡ get_or w (7 * length list + q) 0 → (w' os' : List ℕ) (r : Counted)
+    pub leave_output : (lit : Literal) → lit.word ≡ get_or w (7 * length list + q) 0 → (w' os' : List ℕ) (r : Option Tally)
         → OutputMade (length list) p lit.word w os t w' os' r → Goal w' ws os' r
     leave_output lit el w' os' r o = subst (λ (b : Build). Moved n rm b w ws os w' ws os' r) (sym (then_is ∙ ap (leaving n s p) is_port))
         (output_moves n fit.accepted rm w ws t s d p q lp port_has os ls w' os' r
         (subst (λ (v : ℕ). OutputMade (length list) p v w os t w' os' r) (lit_is lit el) o))
 
-  pub leave_input : made ≡ Input → (w' ws' : List ℕ) (r : Counted) → Left at (length list) p (pushed (drafted ws t) (Port p)) w ws t w' ws' r → Goal w' ws' os r
+  pub leave_input : made ≡ Input → (w' ws' : List ℕ) (r : Option Tally) → Left at (length list) p (pushed (drafted ws t) (Port p)) w ws t w' ws' r → Goal w' ws' os r
   leave_input e w' ws' r f = with_lit_lem at (pushed (drafted ws t) (Port p)) (s.drivers ++ (Port p ∷ [])) (2 * length s.drivers) w' ws' r ea
       (ap (λ (x : List Driver). x ++ (Port p ∷ [])) d.drivers) (ap (λ (x : List Driver). 2 * length x) d.drivers)
       (then_is ∙ ap (leaving n s p) (input_role (role n p) (sym left_is ∙ e))) f
@@ -177,7 +175,7 @@ module _ (kinds starts list pins nets : List ℕ) (rm : Rooms) (w ws os : List �
     same : got ≡ want
     same = λ j. and_of (d.drivers j) (opposite_if x (d.written.lits a first_low j)) (opposite_if y (d.written.lits b second_low j))
 
-    pub leave_and : (w' ws' : List ℕ) (r : Counted)
+    pub leave_and : (w' ws' : List ℕ) (r : Option Tally)
         → Left at (length list) p (turned_made z (and_of (drafted ws t) (opposite_if x (word_at w (length list) a)) (opposite_if y (word_at w (length list) b)))) w ws t w' ws' r → Goal w' ws' os r
     leave_and w' ws' r f = with_lit_lem at (turned_made z got) want.drivers (opposite_if z want.lit) w' ws' r ea
         (ap (λ (k : Made). k.drivers) same) (ap (λ (k : Made). opposite_if z k.lit) same)
@@ -222,7 +220,7 @@ module _ (kinds starts list pins nets : List ℕ) (rm : Rooms) (w ws os : List �
     stored_same : stored ≡ stored_so
     stored_same = λ j. set_reset (d.drivers j) (2 * own_is j) (lits-same 6 j) (lits-same 7 j)
 
-    pub leave_flop : (w' ws' : List ℕ) (r : Counted) → Left at (length list) p stored w ws t w' ws' r → Goal w' ws' os r
+    pub leave_flop : (w' ws' : List ℕ) (r : Option Tally) → Left at (length list) p stored w ws t w' ws' r → Goal w' ws' os r
     leave_flop w' ws' r f = with_lit_lem at stored stored_so.drivers stored_so.lit w' ws' r ea (ap (λ (k : Made). k.drivers) stored_same) (ap (λ (k : Made). k.lit) stored_same)
         (then_is ∙ ap (leaving n s p) is_stored) f
 
@@ -236,9 +234,6 @@ module _ (kinds starts list pins nets : List ℕ) (rm : Rooms) (w ws os : List �
     read_cell : c < length kinds
     read_cell = subst (λ (v : ℕ). v < length kinds) of_cell (cell_fits n fit.accepted p lp)
 
-    pub read-start : c < length starts
-    read-start = omega (arith, read_cell, fit.starts_long)
-
     read_listed : start_of n c < start_of n (c + 1)
     read_listed = subst (λ (v : ℕ). start_of n v < start_of n (v + 1)) of_cell (pin_start n fit.accepted p lp)
 
@@ -246,28 +241,21 @@ module _ (kinds starts list pins nets : List ℕ) (rm : Rooms) (w ws os : List �
       pub read_place : place < length list
       read_place = omega (arith, ep, start-below n fit.accepted c read_cell read_listed)
 
-      pub leave_ram : (w' ws' : List ℕ) (r : Counted) → RamMade (length list) at rm.rams c place p w ws t w' ws' r → Goal w' ws' os r
+      pub leave_ram : (w' ws' : List ℕ) (r : Option Tally) → RamMade (length list) at rm.rams c place p w ws t w' ws' r → Goal w' ws' os r
       leave_ram w' ws' r f = subst (λ (b : Build). Moved n rm b w ws os w' ws' os r) (sym (then_is ∙ ap (leaving n s p) is_read))
           (ram_moves n fit.accepted rm w ws t s d c x p lp read_cell (ram_words_lem n p c x is_read).1 read_listed os ls w' ws' r
           (subst (λ (v : ℕ). RamMade (length list) v rm.rams c (get_or starts c 0) p w ws t w' ws' r) ea
           (subst (λ (v : ℕ). RamMade (length list) at rm.rams c v p w ws t w' ws' r) ep f)))
 
 -- ---- a flip-flop's own pin is read
-pub stored_in : (starts list w : List ℕ) (c at place : ℕ) → Stored starts list w c → place ≡ get_or starts c 0 → 8 * length list ≤ at → (ws : List ℕ) (t : Tally) → Table at w ws t
-    → length list + place < length w
-stored_in starts list w c at place h e l ws t tb = omega (arith, h.placed, e, l, tb.ready.wide)
-
-pub own_small : (starts list w : List ℕ) (c place own : ℕ) → Stored starts list w c → place ≡ get_or starts c 0 → own ≡ get_or w (length list + place) 0 → own ≤ 16777215
-own_small starts list w c place own h e f = omega (arith, h.small, f ∙ ap (λ (x : ℕ). get_or w (length list + x) 0) e)
-
-pub stored-left : (kinds starts list pins nets : List ℕ) (at p : ℕ) (w ws : List ℕ) (t : Tally) (c place own : ℕ) (w' ws' : List ℕ) (r : Counted) → place ≡ get_or starts c 0
-    → own ≡ get_or w (length list + place) 0
+pub stored-left : (kinds starts list pins nets : List ℕ) (at p : ℕ) (w ws : List ℕ) (t : Tally) (c place o : ℕ) (w' ws' : List ℕ) (r : Option Tally) → place ≡ get_or starts c 0
+    → o ≡ get_or w (length list + place) 0
     → Left at (length list) p
-    (set_reset (drafted ws t) (2 * own) (first_or 1 (word_at w (length list)) (named (tables kinds starts list pins nets) c 6)) (first_or 1 (word_at w (length list)) (named (tables kinds starts list pins nets) c 7)))
+    (set_reset (drafted ws t) (2 * o) (first_or 1 (word_at w (length list)) (named (tables kinds starts list pins nets) c 6)) (first_or 1 (word_at w (length list)) (named (tables kinds starts list pins nets) c 7)))
     w ws t w' ws' r
     → Left at (length list) p
     (set_reset (drafted ws t) (2 * own_pin starts list w c) (first_or 1 (word_at w (length list)) (named (tables kinds starts list pins nets) c 6)) (first_or 1 (word_at w (length list)) (named (tables kinds starts list pins nets) c 7)))
     w ws t w' ws' r
-stored-left kinds starts list pins nets at p w ws t c place own w' ws' r e f x = subst
+stored-left kinds starts list pins nets at p w ws t c place o w' ws' r e f x = subst
     (λ (v : ℕ). Left at (length list) p (set_reset (drafted ws t) (2 * v) (first_or 1 (word_at w (length list)) (named (tables kinds starts list pins nets) c 6)) (first_or 1 (word_at w (length list)) (named (tables kinds starts list pins nets) c 7))) w ws t w' ws' r)
     (f ∙ ap (λ (v : ℕ). get_or w (length list + v) 0) e) x

@@ -1,6 +1,5 @@
 -- All events one after the other, in the code's shape.
 use mathlib.Core.Path.{◌≡◌, refl, sym, ap, subst, ◌∙◌}
-use mathlib.Core.Bool.{true, false}
 use mathlib.Core.List.{List, [], ◌∷◌}
 use Prim.Native.Nat.{ℕ, zero, suc, ◌+◌, ◌*◌, ◌/◌, ◌%◌, ◌≤◌, ◌<◌}
 use native.Mathlib.Omega.{arith}
@@ -9,7 +8,7 @@ use lib.Seq.{take_all}
 use borrow.Author.Tests.{eq-eqb, ne_eqb}
 use Rattle.laws.specs.Lists.{over}
 use Rattle.laws.specs.Search.{Event, enter, leave}
-use Rattle.laws.proofs.Tests.{true≢false, one_eq}
+use Rattle.laws.proofs.Tests.{one_eq}
 use Rattle.laws.proofs.Folds.{over-append}
 use Rattle.laws.proofs.Events.{ins, outs, proper_within}
 use Rattle.rules.specs.declared.Tally.{Tally}
@@ -18,11 +17,10 @@ use Rattle.rules.specs.Netlist.{Netlist, size}
 use Rattle.rules.specs.Build.{Build, events, next, act, start2, step1, step2}
 use Rattle.rules.specs.Refusals.{Accepted}
 use Rattle.rules.proofs.Tables.{clash}
-use Rattle.roles.specs.Reading.{tables}
 use Rattle.orders.specs.State.{event_of}
 use Rattle.builds.proofs.Sizes.{Longer, acts_longer}
 use Rattle.builds.proofs.Steps.{visited, inside}
-use Rattle.drafts.specs.declared.Counted.{Counted}
+use Rattle.std.specs.Prelude.{Some, None}
 use Rattle.visits.specs.Drafting.{Drafting, Listed, Over, pins_over, outputs_over, dffs_over, rams_over, Moved, moved, stuck, Before, ready, Visiting, visiting, event_at, state_at}
 
 -- ---- the pin of an event
@@ -50,10 +48,6 @@ module _ (n : Netlist) (acc : Accepted n) (i p : ℕ) (l : i < length (events n)
   leave_below e = inside n acc p (omega (arith, proper_within (next n) (events n) [] [] p (visited n acc).0 (leave_at (events n) i p l e)))
 
 -- ---- one event
-pub event_in : (kinds starts list pins nets : List ℕ) (rm : Rooms) (w ws os : List ℕ) (t : Tally) (at i : ℕ) → Visiting (tables kinds starts list pins nets) rm w ws os t at i
-    → i < 2 * length list → 2 * length list + i < length w
-event_in kinds starts list pins nets rm w ws os t at i (visiting f a c d ls ea) l = omega (arith, l, d.table.ready.wide)
-
 module _ (n : Netlist) (rm : Rooms) (w ws os : List ℕ) (t : Tally) (at i v : ℕ) where
   pub leaves_next : Visiting n rm w ws os t at i → i < 2 * size n → v ≡ get_or w (2 * size n + i) 0 → v % 2 ≡ 1 → Before n rm w ws os t at i (v / 2) (leave (v / 2))
   leaves_next (visiting f a c d ls ea) l e odd =
@@ -83,22 +77,19 @@ over_later n rm i (dffs_over l) = dffs_over (omega (arith, l, (later n i).dffs))
 over_later n rm i (rams_over l) = rams_over (omega (arith, l, (later n i).rams))
 
 module _ (n : Netlist) (rm : Rooms) (w ws os : List ℕ) (t : Tally) (at i : ℕ) where
-  pub visits_go_on : Visiting n rm w ws os t at i → (w' ws' os' : List ℕ) (r : Counted) → Moved n rm (state_at n (i + 1)) w ws os w' ws' os' r → r.fits ≡ true
-      → Visiting n rm w' ws' os' r.tally at (i + 1)
-  visits_go_on (visiting f a c d ls ea) w' ws' os' r (moved y d' ls' lw) e = visiting f a c d' ls' ea
-  visits_go_on (visiting f a c d ls ea) w' ws' os' r (stuck y o lw lws los) e = true≢false r.fits e y
+  pub visits_go_on : Visiting n rm w ws os t at i → (w' ws' os' : List ℕ) (u : Tally) → Moved n rm (state_at n (i + 1)) w ws os w' ws' os' (Some u)
+      → Visiting n rm w' ws' os' u at (i + 1)
+  visits_go_on (visiting f a c d ls ea) w' ws' os' u (moved v y d' ls' lw) =
+      let q : v ≡ u = cc in visiting f a c (subst (λ (x : Tally). Drafting n rm w' ws' x (state_at n (i + 1))) q d') ls' ea
+  visits_go_on (visiting f a c d ls ea) w' ws' os' u (stuck y o lw lws los) = let q : Some u ≡ None = y in clash (cc)
 
   module _ (w₀ ws₀ os₀ : List ℕ) (lw : length w ≡ length w₀) (lws : length ws ≡ length ws₀) (los : length os ≡ length os₀) where
-    pub visits_stop : (w' ws' os' : List ℕ) (r : Counted) → Moved n rm (state_at n (i + 1)) w ws os w' ws' os' r → r.fits ≡ false → Moved n rm (step2 n) w₀ ws₀ os₀ w' ws' os' r
-    visits_stop w' ws' os' r (moved y d ls k) e = true≢false r.fits y e
-    visits_stop w' ws' os' r (stuck y o a b c) e = stuck y (over_later n rm (i + 1) o) (a ∙ lw) (b ∙ lws) (c ∙ los)
+    pub visits_stop : (w' ws' os' : List ℕ) → Moved n rm (state_at n (i + 1)) w ws os w' ws' os' None → Moved n rm (step2 n) w₀ ws₀ os₀ w' ws' os' None
+    visits_stop w' ws' os' (moved v y d ls k) = let q : None ≡ Some v = y in clash (cc)
+    visits_stop w' ws' os' (stuck y o a b c) = stuck y (over_later n rm (i + 1) o) (a ∙ lw) (b ∙ lws) (c ∙ los)
 
-    pub visits_end : Visiting n rm w ws os t at i → 2 * size n ≤ i → Moved n rm (step2 n) w₀ ws₀ os₀ w ws os (record { fits = true; tally = t })
+    pub visits_end : Visiting n rm w ws os t at i → 2 * size n ≤ i → Moved n rm (step2 n) w₀ ws₀ os₀ w ws os (Some t)
     unfolding state_at step2
     visits_end (visiting f a c d ls ea) l =
         let e : state_at n i ≡ step2 n = ap (over (act n) (start2 (step1 n))) (take_all i (events n) (omega (arith, c, l))) in
-        moved refl (subst (Drafting n rm w ws t) e d) (subst (Listed rm os) e ls) lw
-
-pub visits_few : (kinds starts list pins nets : List ℕ) (rm : Rooms) (w ws os : List ℕ) (t : Tally) (at i : ℕ) → Visiting (tables kinds starts list pins nets) rm w ws os t at i
-    → length list ≤ 1048576
-visits_few kinds starts list pins nets rm w ws os t at i (visiting f a c d ls ea) = d.sized.pins
+        moved t refl (subst (Drafting n rm w ws t) e d) (subst (Listed rm os) e ls) lw

@@ -1,15 +1,13 @@
 -- What a pin is by what it makes, and what is there before an event.
-use mathlib.Core.Path.{◌≡◌, refl, sym, ap, subst, ◌∙◌}
+use mathlib.Core.Path.{◌≡◌, refl, sym, ap, subst}
 use mathlib.Core.Bool.{Bool, true, false}
 use mathlib.Core.List.{List, [], ◌∷◌}
-use Prim.Native.Nat.{ℕ, ◌+◌, ◌*◌, ◌≤◌, ◌<◌}
-use native.Mathlib.Omega.{arith}
+use Prim.Native.Nat.{ℕ, ◌<◌}
 use lib.ListN.{length}
 use Rattle.laws.specs.Tests.{one}
 use Rattle.laws.specs.Lists.{count}
 use Rattle.laws.specs.Search.{Event}
 use Rattle.laws.proofs.Bags.{here}
-use Rattle.laws.proofs.Words.{filled-length}
 use Rattle.rules.specs.declared.Tally.{Tally}
 use Rattle.rules.specs.declared.Rooms.{Rooms}
 use Rattle.rules.specs.Netlist.{Netlist, size}
@@ -20,39 +18,23 @@ use Rattle.rules.proofs.Tables.{clash}
 use Rattle.roles.specs.Reading.{Fits, says}
 use Rattle.roles.specs.declared.PinRole.{PinRole}
 use Rattle.roles.specs.declared.PinRole.TheVariants as kind
-use Rattle.drafts.specs.Table.{Table}
 use Rattle.drafts.specs.Layout.{index_at}
-use Rattle.visits.specs.declared.Entering.TheVariants as entered
-use Rattle.visits.specs.declared.Leaving.{Leaving}
 use Rattle.visits.specs.declared.Leaving.TheVariants.{Take, Copy, Output, Input, And, Flop, Ram}
-use Rattle.visits.specs.Drafting.{Drafting, Listed, Before, ready, event_at, state_at, flop_of, leaving_of}
+use Rattle.visits.specs.Drafting.{Drafting, Listed, Before, ready, event_at, state_at, leaving_of}
 
 -- ---- what a pin is, by what it makes
-pub flop_role : (r : Role) (c : ℕ) → flop_of r ≡ entered.Flop c → r ≡ dff_out c
-flop_role (tied b) c e = clash (cc)
-flop_role (wire q) c e = clash (cc)
-flop_role (out_port q) c e = clash (cc)
-flop_role in_port c e = clash (cc)
-flop_role (and_out x y z a b) c e = clash (cc)
-flop_role (inv_out a) c e = clash (cc)
-flop_role (buf_out a) c e = clash (cc)
-flop_role (gate_out cp en) c e = clash (cc)
-flop_role (dff_out x) c e = let q : x ≡ c = cc in ap dff_out q
-flop_role (ram_out x b) c e = clash (cc)
-flop_role nothing c e = clash (cc)
-
-pub idle_role : (b : Build) (r : Role) → flop_of r ≡ entered.Nothing → entering b r ≡ b
-idle_role b (tied x) e = refl
-idle_role b (wire q) e = refl
-idle_role b (out_port q) e = refl
-idle_role b in_port e = refl
-idle_role b (and_out x y z a c) e = refl
-idle_role b (inv_out a) e = refl
-idle_role b (buf_out a) e = refl
-idle_role b (gate_out cp en) e = refl
-idle_role b (dff_out c) e = clash (cc)
-idle_role b (ram_out c x) e = refl
-idle_role b nothing e = refl
+pub idle_role : (b : Build) (what : PinRole) → ((c : ℕ) → what ≡ kind.DffOut c → ⊥) → entering b (says what) ≡ b
+idle_role b (kind.Tied x) h = refl
+idle_role b (kind.Wire q) h = refl
+idle_role b (kind.OutPort q) h = refl
+idle_role b kind.InPort h = refl
+idle_role b (kind.AndOut x y z a c) h = refl
+idle_role b (kind.InvOut a) h = refl
+idle_role b (kind.BufOut a) h = refl
+idle_role b (kind.GateOut cp en) h = refl
+idle_role b (kind.DffOut c) h = absurd (h c refl)
+idle_role b (kind.RamOut c x) h = refl
+idle_role b kind.Nothing h = refl
 
 module _ (n : Netlist) (b : Build) (p : ℕ) where
   pub take-role : (r : Role) (v : ℕ) → leaving_of r ≡ Take v → leaving n b p r ≡ with_lit b p b.drivers v
@@ -174,76 +156,3 @@ module _ (n : Netlist) (rm : Rooms) (w ws os : List ℕ) (t : Tally) (at i p : �
 
   pub below_of : Before n rm w ws os t at i p e → p < size n
   below_of (ready a b c d f g h j) = j
-
-  -- what the steps ask of the words
-  pub table_of : Before n rm w ws os t at i p e → Table at w ws t
-  table_of bf = subst (λ (x : ℕ). Table x w ws t) (sym (index_of bf)) (draft_of bf).table
-
-  pub lists_of : Before n rm w ws os t at i p e → 8 * size n ≤ at
-  lists_of bf = omega (arith, index_of bf)
-
-  pub own_of : Before n rm w ws os t at i p e → 7 * size n + p < at
-  own_of bf = omega (arith, index_of bf, below_of bf)
-
-  pub take_of : Before n rm w ws os t at i p e → 7 * size n + p < length w
-  take_of bf = omega (arith, below_of bf, (draft_of bf).table.ready.wide)
-
-  pub dffs_room : Before n rm w ws os t at i p e → rm.dffs ≤ 1048576
-  dffs_room bf = (draft_of bf).sized.dffs
-
-  pub dffs_now : Before n rm w ws os t at i p e → t.dffs ≤ 1048576
-  dffs_now bf = omega (arith, (draft_of bf).dffs_fit, (draft_of bf).sized.dffs)
-
-  pub rams_room : Before n rm w ws os t at i p e → rm.rams ≤ 1048576
-  rams_room bf = (draft_of bf).sized.rams
-
-  pub rams_now : Before n rm w ws os t at i p e → t.rams ≤ 1048576
-  rams_now bf = omega (arith, (draft_of bf).rams_fit, (draft_of bf).sized.rams)
-
-  pub outputs_few : Before n rm w ws os t at i p e → length os ≤ 1048576
-  outputs_few bf = let ls = list_of bf in
-      omega (arith, ap length ls.words, filled-length (state_at n i).outs rm.outputs ls.fits, (draft_of bf).sized.outputs)
-
--- ---- by value
-module _ (what : PinRole) where
-  pub enters_flop : (c : ℕ) → what ≡ kind.DffOut c → entered.Flop c ≡ flop_of (says what)
-  enters_flop c e = ap (λ (x : PinRole). flop_of (says x)) (sym e)
-
-  pub leaves_wire : (q : ℕ) → what ≡ kind.Wire q → Copy q false ≡ leaving_of (says what)
-  leaves_wire q e = ap (λ (x : PinRole). leaving_of (says x)) (sym e)
-
-  pub leaves_tied : (b : Bool) → what ≡ kind.Tied b → (r : Leaving) → r ≡ leaving_of (tied b) → r ≡ leaving_of (says what)
-  leaves_tied b e r f = f ∙ ap (λ (x : PinRole). leaving_of (says x)) (sym e)
-
-  pub leaves_output : (q : ℕ) → what ≡ kind.OutPort q → Output q ≡ leaving_of (says what)
-  leaves_output q e = ap (λ (x : PinRole). leaving_of (says x)) (sym e)
-
-  pub leaves_input : what ≡ kind.InPort → Input ≡ leaving_of (says what)
-  leaves_input e = ap (λ (x : PinRole). leaving_of (says x)) (sym e)
-
-  pub leaves_and : (x y z : Bool) (a b : ℕ) → what ≡ kind.AndOut x y z a b → And x y z a b ≡ leaving_of (says what)
-  leaves_and x y z a b e = ap (λ (v : PinRole). leaving_of (says v)) (sym e)
-
-  pub leaves_inv : (a : ℕ) → what ≡ kind.InvOut a → Copy a true ≡ leaving_of (says what)
-  leaves_inv a e = ap (λ (x : PinRole). leaving_of (says x)) (sym e)
-
-  pub leaves_buf : (a : ℕ) → what ≡ kind.BufOut a → Copy a false ≡ leaving_of (says what)
-  leaves_buf a e = ap (λ (x : PinRole). leaving_of (says x)) (sym e)
-
-  pub leaves_gate : (a b : ℕ) → what ≡ kind.GateOut a b → Take 4294967295 ≡ leaving_of (says what)
-  leaves_gate a b e = ap (λ (x : PinRole). leaving_of (says x)) (sym e)
-
-  pub leaves_flop : (c : ℕ) → what ≡ kind.DffOut c → Flop c ≡ leaving_of (says what)
-  leaves_flop c e = ap (λ (x : PinRole). leaving_of (says x)) (sym e)
-
-  pub leaves_ram : (c b : ℕ) → what ≡ kind.RamOut c b → Ram c b ≡ leaving_of (says what)
-  leaves_ram c b e = ap (λ (x : PinRole). leaving_of (says x)) (sym e)
-
-  pub leaves_nothing : what ≡ kind.Nothing → Take 0 ≡ leaving_of (says what)
-  leaves_nothing e = ap (λ (x : PinRole). leaving_of (says x)) (sym e)
-
-pub constant_one : (b : Bool) → b ≡ true → Take 1 ≡ leaving_of (tied b)
-constant_one b e = ap (λ (x : Bool). Take (one x)) (sym e)
-
-pub constant_zero : (b : Bool) → b ≡ false → Take 0 ≡ leaving_of (tied b)
-constant_zero b e = ap (λ (x : Bool). Take (one x)) (sym e)

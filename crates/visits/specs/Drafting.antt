@@ -1,5 +1,5 @@
 -- Step 2 in words: what the driver table, the outputs and the work words hold of what the rules have built so far.
-use Rattle.std.specs.Prelude.{◌≡◌, true, false, List, ℕ, ◌+◌, ◌*◌, ◌<◌, ◌≤◌, length, get_or, take}
+use Rattle.std.specs.Prelude.{◌≡◌, true, false, Option, Some, None, List, ℕ, ◌+◌, ◌*◌, ◌<◌, ◌≤◌, length, get_or, take}
 use Rattle.laws.specs.Tests.{one}
 use Rattle.laws.specs.Lists.{member, over}
 use Rattle.laws.specs.Search.{Event, enter}
@@ -12,11 +12,8 @@ use Rattle.rules.specs.Build.{Role, tied, wire, out_port, in_port, and_out, inv_
 use Rattle.rules.specs.Refusals.{Accepted}
 use Rattle.roles.specs.Reading.{Fits}
 use Rattle.orders.specs.State.{event_of}
-use Rattle.drafts.specs.declared.Counted.{Counted}
 use Rattle.drafts.specs.Table.{Table, drafted}
 use Rattle.drafts.specs.Layout.{index_at, Flags, Written}
-use Rattle.visits.specs.declared.Entering.{Entering}
-use Rattle.visits.specs.declared.Entering.TheVariants as entering
 use Rattle.visits.specs.declared.Leaving.{Leaving}
 use Rattle.visits.specs.declared.Leaving.TheVariants.{Take, Copy, Output, Input, And, Flop, Ram}
 
@@ -36,20 +33,7 @@ pub record Stored (starts list w : List ℕ) (c : ℕ) : Type 0 where
   pub placed : get_or starts c 0 < length list
   pub small : own_pin starts list w c ≤ 16777215
 
--- what a pin makes when it is entered, and when it is left
-abbrev pub flop_of : Role → Entering
-flop_of (tied b) = entering.Nothing
-flop_of (wire q) = entering.Nothing
-flop_of (out_port q) = entering.Nothing
-flop_of in_port = entering.Nothing
-flop_of (and_out x y z a b) = entering.Nothing
-flop_of (inv_out a) = entering.Nothing
-flop_of (buf_out a) = entering.Nothing
-flop_of (gate_out cp e) = entering.Nothing
-flop_of (dff_out c) = entering.Flop c
-flop_of (ram_out c b) = entering.Nothing
-flop_of nothing = entering.Nothing
-
+-- what a pin makes when it is left
 abbrev pub leaving_of : Role → Leaving
 leaving_of (tied b) = Take (one b)
 leaving_of (wire q) = Copy q false
@@ -99,9 +83,9 @@ pub data Over (rm : Rooms) (b : Build) : Type 0 where
   rams_over : rm.rams < length b.rams → Over rm b
 
 -- all of b is there; or there is no room for it
-pub data Moved (n : Netlist) (rm : Rooms) (b : Build) (w ws os w' ws' os' : List ℕ) (r : Counted) : Type 0 where
-  moved : r.fits ≡ true → Drafting n rm w' ws' r.tally b → Listed rm os' b → length w' ≡ length w → Moved n rm b w ws os w' ws' os' r
-  stuck : r.fits ≡ false → Over rm b → length w' ≡ length w → length ws' ≡ length ws → length os' ≡ length os → Moved n rm b w ws os w' ws' os' r
+pub data Moved (n : Netlist) (rm : Rooms) (b : Build) (w ws os w' ws' os' : List ℕ) (r : Option Tally) : Type 0 where
+  moved : (t' : Tally) → r ≡ Some t' → Drafting n rm w' ws' t' b → Listed rm os' b → length w' ≡ length w → Moved n rm b w ws os w' ws' os' r
+  stuck : r ≡ None → Over rm b → length w' ≡ length w → length ws' ≡ length ws → length os' ≡ length os → Moved n rm b w ws os w' ws' os' r
 
 -- event i is e, of pin p, and all before it is there
 pub data Before (n : Netlist) (rm : Rooms) (w ws os : List ℕ) (t : Tally) (at i p : ℕ) (e : Event) : Type 0 where

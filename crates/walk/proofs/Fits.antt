@@ -2,55 +2,20 @@
 use mathlib.Core.Path.{◌≡◌, refl, sym, ap, ◌∙◌}
 use mathlib.Core.Bool.{Bool, true, false, ◌&&◌}
 use mathlib.Core.List.{List}
-use Prim.Native.Nat.{ℕ, zero, suc, ◌+◌, ◌*◌, ◌/◌, ◌<◌, ◌≤◌}
+use Prim.Native.Nat.{ℕ, zero, suc, ◌+◌, ◌*◌, ◌<◌, ◌≤◌}
 use native.Mathlib.Numerals.{add-one}
 use native.Mathlib.Omega.{arith}
-use borrow.Author.Tests.{eq-eqb, ne_eqb, le-leb, lt-leb, leb-true, leb-false}
+use borrow.Author.Tests.{eq-eqb, ne_eqb, lt-leb, leb-true, leb-false}
 use lib.ListN.{get_or}
-use Rattle.std.specs.Prelude.{Some, ◌==◌}
+use Rattle.std.specs.Prelude.{Some}
 use Rattle.laws.specs.Tests.{◌<?◌, ◌≤?◌}
 use Rattle.laws.specs.Lists.{every, upto}
-use Rattle.laws.proofs.Tests.{by_test, and-false}
+use Rattle.laws.proofs.Tests.{by_test}
 use Rattle.laws.proofs.Ranges.{upto_fails, upto-more}
 use Rattle.rules.specs.declared.Driver.{Driver}
 use Rattle.rules.specs.declared.Driver.TheVariants.{Port, Dff, Ram}
 use Rattle.rules.specs.Tables.{decode, decode_at, unused, flag_in}
-use Rattle.rules.specs.Refusals.{operand_fits, driver_fits, drivers_fit}
-
--- ---- one operand, and the two of a gate
-module _ (u a : ℕ) where
-  pub operand_low : a / 2 < 1 → false ≡ operand_fits u a
-  operand_low l = sym (rw (lt-leb 1 (a / 2) l))
-
-  pub operand_high : 1 ≤ a / 2 → (a / 2 <? u) ≡ operand_fits u a
-  operand_high l = sym (rw (le-leb 1 (a / 2) l))
-
-module _ (u a b : ℕ) (x : Bool) (ex : x ≡ operand_fits u a) where
-  pub gate_first_lem : x ≡ false → false ≡ driver_fits u (decode 1 a b)
-  gate_first_lem f = sym (rw (sym ex ∙ f))
-
-  module _ (y : Bool) (ey : y ≡ operand_fits u b) where
-    pub gate_second : y ≡ false → false ≡ driver_fits u (decode 1 a b)
-    gate_second f = sym (rw (sym ey ∙ f) (ap (λ (z : Bool). z && (a ≤? b)) (and-false (operand_fits u a))))
-
-    pub gate-both : x ≡ true → y ≡ true → (a ≤? b) ≡ driver_fits u (decode 1 a b)
-    gate-both s t = sym (rw (sym ex ∙ s, sym ey ∙ t))
-
--- ---- a source's third word, and a constant's two
-pub source_high : (u b most : ℕ) → most < b → false ≡ ((b ≤? most) && (0 <? u))
-source_high u b most l = sym (rw (lt-leb b most l))
-
-pub source_low : (u b most : ℕ) → b ≤ most → (0 <? u) ≡ ((b ≤? most) && (0 <? u))
-source_low u b most l = sym (rw (le-leb b most l))
-
-pub constant_first : (u a b : ℕ) → (a ≡ 0 → ⊥) → false ≡ driver_fits u (decode 0 a b)
-constant_first u a b n = sym (rw (ne_eqb a 0 n))
-
-pub constant_second : (u a b : ℕ) → a ≡ 0 → (b ≡ 0 → ⊥) → false ≡ driver_fits u (decode 0 a b)
-constant_second u a b e n = sym (rw (eq-eqb a 0 e, ne_eqb b 0 n))
-
-pub constant_both : (u a b : ℕ) → a ≡ 0 → b ≡ 0 → (u == 0) ≡ driver_fits u (decode 0 a b)
-constant_both u a b e f = sym (rw (eq-eqb a 0 e, eq-eqb b 0 f))
+use Rattle.rules.specs.Refusals.{driver_fits, drivers_fit}
 
 -- ---- the cases by their tags
 pub unused_fits : (u b : ℕ) (d : Driver) → driver_fits u (Some d) ≡ (0 <? u) → driver_fits u (unused b d) ≡ ((b ≤? 0) && (0 <? u))

@@ -7,3 +7,4 @@ pub mod Fits
 pub mod Numbers
 pub mod Handed
 pub mod Only
+pub mod Answered

@@ -5,33 +5,34 @@ use mathlib.Core.List.{List}
 use Prim.Native.Nat.{ℕ, ◌+◌, ◌*◌, ◌<◌, ◌≤◌}
 use borrow.Author.Tests.{le-leb, lt-leb, eq-eqb, ne_eqb, eqb-true, leb-true}
 use lib.ListN.{length}
-use Rattle.std.specs.Prelude.{◌==◌}
+use Rattle.std.specs.Prelude.{Ok, Err, ◌==◌}
 use Rattle.laws.specs.Tests.{◌≤?◌, or_else, refuse}
 use Rattle.laws.proofs.Tests.{and_l, and_r, not_refused, last_refused}
 use Rattle.rules.specs.Refusals.{drivers_fit}
-use Rattle.rules.specs.Answers.{drivers_number}
+use Rattle.rules.specs.declared.Refusal.TheVariants.{Bounds, Lengths, Graph}
+use Rattle.rules.specs.Answers.{done_of, drivers_number}
 
 module _ (ws : List ℕ) (pins : ℕ) (counts lengths : Bool) where
-  pub number_pins : 16777215 < pins → 1 ≡ drivers_number pins ws counts lengths
+  pub number_pins : 16777215 < pins → Err Bounds ≡ done_of (drivers_number pins ws counts lengths)
   number_pins l = sym (rw (lt-leb pins 16777215 l))
 
   module _ (few : pins ≤ 16777215) where
-    pub number_counts : counts ≡ false → 1 ≡ drivers_number pins ws counts lengths
+    pub number_counts : counts ≡ false → Err Bounds ≡ done_of (drivers_number pins ws counts lengths)
     number_counts f = sym (rw (le-leb pins 16777215 few, f))
 
     module _ (c : counts ≡ true) where
-      pub number_long : (length ws ≡ 3 * (pins + 1) → ⊥) → 2 ≡ drivers_number pins ws counts lengths
+      pub number_long : (length ws ≡ 3 * (pins + 1) → ⊥) → Err Lengths ≡ done_of (drivers_number pins ws counts lengths)
       number_long n = sym (rw (le-leb pins 16777215 few, c, ne_eqb (length ws) (3 * (pins + 1)) n))
 
       module _ (e : length ws ≡ 3 * (pins + 1)) where
-        pub number_lengths : lengths ≡ false → 2 ≡ drivers_number pins ws counts lengths
+        pub number_lengths : lengths ≡ false → Err Lengths ≡ done_of (drivers_number pins ws counts lengths)
         number_lengths f = sym (rw (le-leb pins 16777215 few, c, eq-eqb (length ws) (3 * (pins + 1)) e, f))
 
         module _ (l : lengths ≡ true) (b : Bool) (eb : b ≡ drivers_fit ws pins) where
-          pub number_drivers : b ≡ false → 12 ≡ drivers_number pins ws counts lengths
+          pub number_drivers : b ≡ false → Err Graph ≡ done_of (drivers_number pins ws counts lengths)
           number_drivers f = sym (rw (le-leb pins 16777215 few, c, eq-eqb (length ws) (3 * (pins + 1)) e, l, sym eb ∙ f))
 
-          pub number-none : b ≡ true → 0 ≡ drivers_number pins ws counts lengths
+          pub number-none : b ≡ true → Ok tt ≡ done_of (drivers_number pins ws counts lengths)
           number-none t = sym (rw (le-leb pins 16777215 few, c, eq-eqb (length ws) (3 * (pins + 1)) e, l, sym eb ∙ t))
 
 -- ---- what the number 0 says

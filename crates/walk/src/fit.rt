@@ -3,8 +3,9 @@ ghost use Rattle.std.specs.Prelude.{◌≡◌, ◌&&◌, ◌+◌, ◌*◌, ◌<�
 ghost use Rattle.laws.specs.Tests.{◌<?◌, ◌≤?◌};
 ghost use Rattle.rules.specs.Tables.{decode, decode_at};
 ghost use Rattle.rules.specs.Refusals.{operand_fits, driver_fits, drivers_fit};
-ghost use Rattle.rules.specs.Answers.{drivers_number};
+ghost use Rattle.rules.specs.Answers.{done_of, drivers_number};
 
+use rules::Refusal;
 use words::word;
 
 // Is a a literal of a pin from 1 on, below u?
@@ -12,44 +13,26 @@ fn operand_fits(u: usize, a: u32) -> bool
     ensures { result ≡ operand_fits u a }
 {
     let p = (a / 2) as usize;
-    if p < 1 {
-        return false;
-    }
-    p < u
+    1 <= p && p < u
 }
 
 fn gate_fits(u: usize, a: u32, b: u32) -> bool
     ensures { result ≡ driver_fits u (decode 1 a b) }
 {
-    if !operand_fits(u, a) {
-        return false;
-    }
-    if !operand_fits(u, b) {
-        return false;
-    }
-    a <= b
+    operand_fits(u, a) && operand_fits(u, b) && a <= b
 }
 
 // A source is any pin but 0, and its third word is at most `most`.
 fn source_fits(u: usize, b: u32, most: u32) -> bool
     ensures { result ≡ ((b ≤? most) && (0 <? u)) }
 {
-    if most < b {
-        return false;
-    }
-    0 < u
+    b <= most && 0 < u
 }
 
 fn constant_fits(u: usize, a: u32, b: u32) -> bool
     ensures { result ≡ driver_fits u (decode 0 a b) }
 {
-    if a != 0 {
-        return false;
-    }
-    if b != 0 {
-        return false;
-    }
-    u == 0
+    a == 0 && b == 0 && u == 0
 }
 
 // Do three words say a driver that the pin u may have?
@@ -84,36 +67,38 @@ pub fn check_drivers(drivers: &[u32], pins: usize) -> bool
     ensures { result ≡ drivers_fit drivers.now pins }
 {
     let m = pins + 1;
-    let mut u = 0;
-    while u < m {
+    for u in 0..m {
         if !driver_fits(drivers, u) {
             return false;
         }
-        u += 1;
     }
     true
 }
 
-// 1, 2 and 12 of a call on a driver table: its number, where `counts` and `lengths` say whether what else is lent passes 1 and 2.
-pub fn drivers_number(drivers: &[u32], pins: usize, counts: bool, lengths: bool) -> u32
-    ensures { result ≡ drivers_number pins drivers.now counts lengths }
+// 1, 2 and 12 of a call on a driver table, where `counts` and `lengths` say whether what else is lent passes 1 and 2.
+pub fn test_drivers(
+    drivers: &[u32],
+    pins: usize,
+    counts: bool,
+    lengths: bool,
+) -> Result<(), Refusal>
+    ensures { result ≡ done_of (drivers_number pins drivers.now counts lengths) }
 {
     if 16777215 < pins {
-        return 1;
+        return Err(Refusal::Bounds);
     }
     if !counts {
-        return 1;
+        return Err(Refusal::Bounds);
     }
-    let m = pins + 1;
-    let long = 3 * m;
+    let long = 3 * (pins + 1);
     if drivers.len() != long {
-        return 2;
+        return Err(Refusal::Lengths);
     }
     if !lengths {
-        return 2;
+        return Err(Refusal::Lengths);
     }
     if !check_drivers(drivers, pins) {
-        return 12;
+        return Err(Refusal::Graph);
     }
-    0
+    Ok(())
 }

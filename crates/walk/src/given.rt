@@ -10,13 +10,10 @@ use words::word;
 pub fn all_below(s: &[u32], m: usize) -> bool
     ensures { result ≡ below m s.now }
 {
-    let mut i = 0;
-    while i < s.len() {
-        let x = word(s, i);
+    for &x in s {
         if m <= (x as usize) {
             return false;
         }
-        i += 1;
     }
     true
 }
@@ -29,14 +26,11 @@ pub fn set_stops(handed: &[u32], work: &mut [u32], m: usize) -> bool
     ensures { StopsSet m handed.now work.old work.new result }
 {
     let mut repeats: usize = 0;
-    let mut i = 0;
-    while i < handed.len() {
-        let p = word(handed, i);
+    for &p in handed {
         let at = m + (p as usize);
         let met = word(work, at);
         work[at] = 1;
         repeats += met as usize;
-        i += 1;
     }
     repeats == 0
 }

@@ -13,7 +13,7 @@ pub mod fit; // fit.rt: whether a driver table is one (refusal 12, what speaks o
 pub mod given; // given.rt: lists of pins that are handed in (refusal 15), and the stops that they set
 
 // A place in a walk: the stack's height, and how many pins are listed.
-#[derive(Drop)]
+#[derive(Clone, Copy)]
 struct Place {
     height: usize,
     count: usize,
@@ -64,22 +64,19 @@ fn turn(drivers: &[u32], work: &mut [u32], m: usize, at: Place) -> Place
     let p = t as usize;
     let x = next(drivers, work, m, p);
     if x == 0 {
-        let lower = h - 1;
-        let more = k + 1;
         let last = 3 * m + k;
         work[p] = 1;
         work[top] = 0;
         work[last] = t;
         Place {
-            height: lower,
-            count: more,
+            height: h - 1,
+            count: k + 1,
         }
     } else {
-        let higher = h + 1;
         let above = 2 * m + h;
         work[above] = x;
         Place {
-            height: higher,
+            height: h + 1,
             count: k,
         }
     }
@@ -97,22 +94,11 @@ pub fn visit(drivers: &[u32], work: &mut [u32], m: usize, count: usize, root: u3
     }
     let bottom = 2 * m;
     work[bottom] = root;
-    let mut h = 1;
-    let mut k = count;
-    while 0 < h {
-        let at = turn(
-            drivers,
-            work,
-            m,
-            Place {
-                height: h,
-                count: k,
-            },
-        );
-        h = at.height;
-        k = at.count;
+    let mut at = Place { height: 1, count };
+    while 0 < at.height {
+        at = turn(drivers, work, m, at);
     }
-    k
+    at.count
 }
 
 // The visits of all roots in turn.
@@ -122,11 +108,8 @@ pub fn visit_all(drivers: &[u32], roots: &[u32], work: &mut [u32], m: usize, cou
     ensures { AllVisited drivers.now m roots.now work.old count work.new result }
 {
     let mut k = count;
-    let mut i = 0;
-    while i < roots.len() {
-        let root = word(roots, i);
+    for &root in roots {
         k = visit(drivers, work, m, k, root);
-        i += 1;
     }
     k
 }
@@ -136,12 +119,10 @@ pub fn forget(work: &mut [u32], m: usize, count: usize)
     requires { Listing m work.old count }
     ensures { Forgotten m work.old work.new }
 {
-    let mut i = 0;
-    while i < count {
+    for i in 0..count {
         let at = 3 * m + i;
         let p = word(work, at);
         work[p as usize] = 0;
         work[at] = 0;
-        i += 1;
     }
 }

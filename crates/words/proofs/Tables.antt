@@ -1,18 +1,20 @@
--- What a table holds after words were written to it, word by word, and the loops that write and compare tables.
+-- What a table holds after words were written to it, at once or one a turn, and when two tables are equal or one is 0.
 use mathlib.Core.Path.{◌≡◌, refl, sym, ◌∙◌, ap, subst}
 use mathlib.Core.Bool.{true, false}
 use mathlib.Core.List.{List, [], ◌∷◌, ◌++◌}
 use Prim.Native.Nat.{ℕ, ◌+◌, ◌-◌, ◌≤◌, ◌<◌}
 use native.Mathlib.Omega.{arith}
-use borrow.Author.Tests.{ltb-true, ltb-false, eqb-true, eqb-false, eq-eqb, ne_eqb}
-use lib.ListN.{length, get_or, take, drop, set, replicate, length-append, length-drop, length-set, length-replicate, get_or-replicate, take-append-drop, get_or-append}
-use lib.Seq.{length-take-le, get_or-take, get_or-drop, get_or-append-add, get_or-set_same, get_or-set_other, ext_get_or}
-use Rattle.std.specs.Prelude.{◌==◌}
+use borrow.Author.Tests.{ltb-true, ltb-false, eqb-true, eqb-false, eq-eqb}
+use lib.ListN.{length, get_or, take, drop, set, replicate, length-append, length-drop, length-set, take-append-drop, get_or-append}
+use borrow.Rule.Slice.PartMut.{put_mid}
+use lib.Pointwise.{pointwise}
+use lib.Seq.{drop-drop, length-take-le, get_or-take, get_or-drop, get_or-append-add, get_or-set_same, get_or-set_other, ext_get_or}
+use Rattle.std.specs.Prelude.{◌==◌, ◌&&◌}
 use Rattle.laws.specs.Tests.{◌<?◌}
 use Rattle.laws.specs.Words.{part, zeros, filled}
 use Rattle.laws.proofs.Tests.{by_test, true≢false, and_l, and_r}
-use Rattle.laws.proofs.Indices.{every_at, every_entry, every_fails}
-use Rattle.laws.proofs.Words.{part_length, part_at, part_is, zeros-length, filled-length, filled_at, filled_past, zeros_at, zeros_is}
+use Rattle.laws.proofs.Indices.{every_at, every_entry}
+use Rattle.laws.proofs.Words.{part_is, zeros-length, filled-length, filled_at, filled_past, zeros_at, zeros_is}
 use Rattle.words.specs.Tables.{written, same_words, all_zero}
 
 -- ---- words written into a table, word by word
@@ -83,6 +85,23 @@ written-zeros ws room h =
     (λ k l. zeros_at room (0 + k) ∙ sym (zeros_at (length ws) k))
     (λ j l. zeros_at room j ∙ sym (filled_past ws room j (omega arith))))
 
+-- words put in the place of k from a on, as a slice of the table takes them
+pub put_mid_written : (t ws vs : List ℕ) (a k : ℕ) → vs ≡ ws → length ws ≡ k → put_mid a k t vs ≡ written t a ws
+unfolding written
+put_mid_written t ws vs a k e l =
+    ap (λ (c : List ℕ). take a t ++ (c ++ drop k (drop a t))) e ∙ ap (λ (c : List ℕ). take a t ++ (ws ++ c)) (drop-drop k a t ∙ ap (λ (j : ℕ). drop (a + j) t) (sym l))
+
+-- the words of a range of a table
+pub range_part : (f vs : List ℕ) (b n : ℕ) → vs ≡ take (b + n - b) (drop b f) → vs ≡ part f b n
+unfolding part
+range_part f vs b n e = let q : b + n - b ≡ n = omega arith in e ∙ ap (λ (k : ℕ). take k (drop b f)) q
+
+-- one word over a range of a table
+pub range_filled : (t vs : List ℕ) (a n v : ℕ) → a + n ≤ length t → vs ≡ replicate (length (take (a + n - a) (drop a t))) v → vs ≡ replicate n v
+range_filled t vs a n v h e =
+    let q : length (take (a + n - a) (drop a t)) ≡ n = omega (arith, length-take-le (a + n - a) (drop a t) (omega (arith, length-drop a t))) in
+    e ∙ ap (λ (k : ℕ). replicate k v) q
+
 -- ---- a loop that writes one word a turn: after i turns the first i of them are written
 pub record Writing (t : List ℕ) (a : ℕ) (w : ℕ → ℕ) (i : ℕ) (s : List ℕ) : Type 0 where
   pub long : length s ≡ length t
@@ -103,36 +122,6 @@ writing_goes_on t a w i s v g l e = record {
   after = λ j b. get_or-set_other s (a + i) j v 0 (omega arith) ∙ g.after j (omega arith);
 }
 
-pub writing_ends : (t : List ℕ) (a : ℕ) (w : ℕ → ℕ) (i : ℕ) (s ws : List ℕ) → Writing t a w i s → length ws ≡ i → a + i ≤ length t → ((k : ℕ) → k < i → get_or ws k 0 ≡ w k) → s ≡ written t a ws
-writing_ends t a w i s ws g e h same = written_is t a ws (omega arith) s g.long g.before
-    (λ k l. g.done k (omega arith) ∙ sym (same k (omega arith)))
-    (λ j l. g.after j (omega arith))
-
--- the same, as `fill` and `copy` have it
-module _ (t : List ℕ) (a n v i : ℕ) (s : List ℕ) (g : Writing t a (λ k. v) i s) (h : a + n ≤ length t) where
-  pub fill_goes_on : i < n → Writing t a (λ k. v) (i + 1) (set s (a + i) v)
-  fill_goes_on l = writing_goes_on t a (λ k. v) i s v g (omega arith) refl
-
-  pub fill_ends : i ≤ n → n ≤ i → s ≡ written t a (replicate n v)
-  fill_ends l r =
-      let e : i ≡ n = omega arith in
-      writing_ends t a (λ k. v) i s (replicate n v) g (length-replicate n v ∙ sym e) (omega arith) (λ k b. get_or-replicate n k v 0 (omega arith))
-
-pub record Copying (f : List ℕ) (b : ℕ) (t : List ℕ) (a i : ℕ) (s : List ℕ) : Type 0 where
-  pub writing : Writing t a (λ k. get_or f (b + k) 0) i s
-
-pub copy_begins : (f : List ℕ) (b : ℕ) (t : List ℕ) (a : ℕ) → Copying f b t a 0 t
-copy_begins f b t a = record { writing = writing_begins t a (λ k. get_or f (b + k) 0) }
-
-module _ (f : List ℕ) (b : ℕ) (t : List ℕ) (a n i : ℕ) (s : List ℕ) (g : Copying f b t a i s) (hf : b + n ≤ length f) (h : a + n ≤ length t) where
-  pub copy_goes_on : (v : ℕ) → i < n → v ≡ get_or f (b + i) 0 → Copying f b t a (i + 1) (set s (a + i) v)
-  copy_goes_on v l e = record { writing = writing_goes_on t a (λ k. get_or f (b + k) 0) i s v g.writing (omega arith) e }
-
-  pub copy_ends : i ≤ n → n ≤ i → s ≡ written t a (part f b n)
-  copy_ends l r =
-      let e : i ≡ n = omega arith in
-      writing_ends t a (λ k. get_or f (b + k) 0) i s (part f b n) g.writing (part_length f b n hf ∙ sym e) (omega arith) (λ k c. part_at f b n k (omega arith))
-
 -- ---- two tables compared
 pub same_words_lem : (a b : List ℕ) → same_words a b ≡ true → a ≡ b
 unfolding same_words
@@ -149,28 +138,13 @@ words_same (x ∷ xs) = rw (eq-eqb x x refl) (words_same xs)
 pub words_differ : (a b : List ℕ) → (a ≡ b → ⊥) → same_words a b ≡ false
 words_differ a b n = by_test (same_words a b) (λ t. absurd (n (same_words_lem a b t))) (λ f. f)
 
--- so far they agree
-pub record Agree (a b : List ℕ) (i : ℕ) : Type 0 where
-  pub so_far : (j : ℕ) → j < i → get_or a j 0 ≡ get_or b j 0
-
-pub agree_begins : (a b : List ℕ) → Agree a b 0
-agree_begins a b = record { so_far = λ j l. absurd (omega arith) }
-
-pub agree_goes_on : (a b : List ℕ) (i x y : ℕ) → Agree a b i → x ≡ get_or a i 0 → y ≡ get_or b i 0 → x ≡ y → Agree a b (i + 1)
-agree_goes_on a b i x y g e f q = record {
-  so_far = λ j l. by_test (j == i)
-      (λ t. let w = eqb-true j i t in ap (λ (n : ℕ). get_or a n 0) w ∙ sym e ∙ q ∙ f ∙ ap (λ (n : ℕ). get_or b n 0) (sym w))
-      (λ n. let w = eqb-false j i n in g.so_far j (omega arith));
-}
-
-pub agree_ends : (a b : List ℕ) (i : ℕ) → Agree a b i → length a ≡ length b → length a ≤ i → true ≡ same_words a b
-agree_ends a b i g e l = sym (subst (λ (c : List ℕ). same_words a c ≡ true) (ext_get_or 0 a b e (λ j h. g.so_far j (omega arith))) (words_same a))
-
-pub agree_fails : (a b : List ℕ) (i x y : ℕ) → x ≡ get_or a i 0 → y ≡ get_or b i 0 → (x ≡ y → ⊥) → false ≡ same_words a b
-agree_fails a b i x y e f n = sym (words_differ a b (λ q. n (e ∙ ap (λ (c : List ℕ). get_or c i 0) q ∙ sym f)))
-
-pub lengths_differ : (a b : List ℕ) → (length a ≡ length b → ⊥) → false ≡ same_words a b
-lengths_differ a b n = sym (words_differ a b (λ q. n (ap length q)))
+-- the same as a slice tests it
+pub same_words-eqb : (a b : List ℕ) → pointwise (λ x y. x == y) a b ≡ same_words a b
+unfolding same_words
+same_words-eqb [] [] = refl
+same_words-eqb [] (y ∷ ys) = refl
+same_words-eqb (x ∷ xs) [] = refl
+same_words-eqb (x ∷ xs) (y ∷ ys) = ap (λ b. (x == y) && b) (same_words-eqb xs ys)
 
 -- ---- a table of which nothing is used
 pub all_zero_lem : (s : List ℕ) → all_zero s ≡ true → s ≡ zeros (length s)
@@ -180,24 +154,3 @@ all_zero_lem s e = zeros_is s (λ j l. eqb-true (get_or s j 0) 0 (every_at (λ x
 pub zero_all : (n : ℕ) → all_zero (zeros n) ≡ true
 unfolding all_zero
 zero_all n = every_entry (λ x. x == 0) 0 (zeros n) (λ k l. eq-eqb (get_or (zeros n) k 0) 0 (zeros_at n k))
-
-pub record Unused (s : List ℕ) (i : ℕ) : Type 0 where
-  pub so_far : (j : ℕ) → j < i → get_or s j 0 ≡ 0
-
-pub unused_begins : (s : List ℕ) → Unused s 0
-unused_begins s = record { so_far = λ j l. absurd (omega arith) }
-
-pub unused_goes_on : (s : List ℕ) (i x : ℕ) → Unused s i → x ≡ get_or s i 0 → x ≡ 0 → Unused s (i + 1)
-unused_goes_on s i x g e z = record {
-  so_far = λ j l. by_test (j == i)
-      (λ t. ap (λ (n : ℕ). get_or s n 0) (eqb-true j i t) ∙ sym e ∙ z)
-      (λ n. let w = eqb-false j i n in g.so_far j (omega arith));
-}
-
-pub unused_ends : (s : List ℕ) (i : ℕ) → Unused s i → length s ≤ i → true ≡ all_zero s
-unfolding all_zero
-unused_ends s i g l = sym (every_entry (λ x. x == 0) 0 s (λ k h. eq-eqb (get_or s k 0) 0 (g.so_far k (omega arith))))
-
-pub unused_fails : (s : List ℕ) (i x : ℕ) → i < length s → x ≡ get_or s i 0 → (x ≡ 0 → ⊥) → false ≡ all_zero s
-unfolding all_zero
-unused_fails s i x l e n = sym (every_fails (λ y. y == 0) 0 s i l (ne_eqb (get_or s i 0) 0 (λ z. n (e ∙ z))))

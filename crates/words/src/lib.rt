@@ -16,11 +16,7 @@ pub fn word(s: &[u32], i: usize) -> u32
 pub fn zero(s: &mut [u32])
     ensures { s.new ≡ zeros (length s.old) }
 {
-    let mut i = 0;
-    while i < s.len() {
-        s[i] = 0;
-        i += 1;
-    }
+    s.fill(0);
 }
 
 // The n words from at on are v; the rest is kept.
@@ -28,11 +24,7 @@ pub fn fill(s: &mut [u32], at: usize, n: usize, v: u32)
     requires { at + n ≤ length s.old }
     ensures { s.new ≡ written s.old at (replicate n v) }
 {
-    let mut i = 0;
-    while i < n {
-        s[at + i] = v;
-        i += 1;
-    }
+    s[at..at + n].fill(v);
 }
 
 // The n words of to from at on are those of from that start at a; the rest is kept.
@@ -41,43 +33,19 @@ pub fn copy(from: &[u32], a: usize, to: &mut [u32], at: usize, n: usize)
     requires n_in_bounds_2 { at + n ≤ length to.old }
     ensures { to.new ≡ written to.old at (part «from».now a n) }
 {
-    let mut i = 0;
-    while i < n {
-        to[at + i] = word(from, a + i);
-        i += 1;
-    }
+    to[at..at + n].copy_from_slice(&from[a..a + n]);
 }
 
 // Are two tables equal?
 pub fn all_same(a: &[u32], b: &[u32]) -> bool
     ensures { result ≡ same_words a.now b.now }
 {
-    if a.len() != b.len() {
-        return false;
-    }
-    let mut i = 0;
-    while i < a.len() {
-        let x = word(a, i);
-        let y = word(b, i);
-        if x != y {
-            return false;
-        }
-        i += 1;
-    }
-    true
+    a == b
 }
 
 // Is every word 0?
 pub fn all_zero(s: &[u32]) -> bool
     ensures { result ≡ all_zero s.now }
 {
-    let mut i = 0;
-    while i < s.len() {
-        let x = word(s, i);
-        if x != 0 {
-            return false;
-        }
-        i += 1;
-    }
-    true
+    s.iter().all(|&w| w == 0)
 }

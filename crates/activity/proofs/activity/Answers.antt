@@ -3,7 +3,7 @@ use borrow.Author.Rules.{rules}
 use Rattle.activity.proofs.activity.Goals as goal
 
 pub end_lit-lit-requires : goal.end_lit-lit-requires
-end_lit-lit-requires c = record { m_in_bounds = search rules; end_known = let a = c.args in end_known a.kinds.now a.starts.now a.list.now a.pins.now a.nets.now a.p a.at a.work.now a.drivers.now a.t _ c.requires.going c.requires.clocked c.trace_clock_pin-walk.ensures }
+end_lit-lit-requires c = record { m_in_bounds = search rules; end_known = end_known _ _ _ _ _ _ _ c.requires.going c.requires.clocked c.trace_clock_pin-walk.ensures }
 
 pub through_all-requires-clause-gates_value : goal.through_all-requires-clause-gates_value
 through_all-requires-clause-gates_value c = record { is = search (gates_told, c.requires.going, c.requires.clocked) }

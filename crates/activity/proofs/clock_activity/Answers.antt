@@ -1,4 +1,5 @@
 use native.Mathlib.Omega.{arith}
+use Rattle.rules.specs.Tables.{netlist_in}
 use Rattle.roles.proofs.Fitting.{laid}
 use Rattle.activity.proofs.Tracing.{entry_clocked, entry_traced_lem, entry_absent}
 use borrow.Author.Rules.{rules}
@@ -10,8 +11,8 @@ cell_entry-found-requires c = record { laid = search laid; cell_in_bounds = omeg
 pub activity-requires : goal.activity-requires
 activity-requires c = record { going = search rules; clocked = search (entry_clocked, c.requires.going, c.requires.a_value, c.requires.b_value) }
 
-pub returns-in-Pin : goal.returns-in-Pin
-returns-in-Pin c = search (entry_traced_lem)
+pub returns-in-Some : goal.returns-in-Some
+returns-in-Some c = let a = c.args in entry_traced_lem (netlist_in a.n) _ _ _ _ a.cell a.a a.b a.k _ c.cell_entry-found.ensures _ c.in-Some.is _ _ _ c.activity.ensures
 
-pub returns-in-Absent : goal.returns-in-Absent
-returns-in-Absent c = search (entry_absent)
+pub returns-in-None : goal.returns-in-None
+returns-in-None c = let a = c.args in entry_absent (netlist_in a.n) _ _ _ _ a.cell a.a a.b a.k _ c.cell_entry-found.ensures c.in-None.is c.requires.going.table

@@ -5,4 +5,4 @@ pub returns : goal.returns
 returns c = search (enable_told, c.requires.going, c.requires.clocked, c.requires.i_in_bounds)
 
 pub bounds-work-place : goal.bounds-work-place
-bounds-work-place c = let a = c.args in enable_place a.kinds.now a.starts.now a.list.now a.pins.now a.nets.now a.p a.i a.at a.work.now a.drivers.now a.so.tally _ c.requires.going c.requires.clocked c.requires.i_in_bounds c.trace_clock_pin-walk.ensures
+bounds-work-place c = enable_place _ _ _ _ _ _ _ _ c.requires.going c.requires.clocked c.requires.i_in_bounds c.trace_clock_pin-walk.ensures

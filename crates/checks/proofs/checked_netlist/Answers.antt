@@ -1,11 +1,14 @@
+use Rattle.std.proofs.lemmas.Result.{err_from_is_err_and}
 use Rattle.checks.proofs.Chain.{checked_fails, now_fits, now_fresh, checked_readied}
 use Rattle.checks.proofs.checked_netlist.Goals as goal
 
-pub returns-then-number-ne0 : goal.returns-then-number-ne0
-returns-then-number-ne0 c = search checked_fails
+pub returns-in_err-test_tables : goal.returns-in_err-test_tables
+returns-in_err-test_tables c =
+    let p = err_from_is_err_and c.from_residual.result c.from_residual.ensures.1 in
+    rw (p.1, p.2) (search (checked_fails, c.in_err-test_tables.ensures))
 
 pub ready_netlist-requires : goal.ready_netlist-requires
-ready_netlist-requires c = record { fits = now_fits _ _ _ _ _ _ _ c.requires c.tables_number-number.ensures c.if-number-ne0.false; fresh = now_fresh _ _ _ _ _ _ _ c.requires c.zero.ensures c.tables_number-number.auto.work }
+ready_netlist-requires c = record { fits = search (now_fits, c.in_ok-test_tables.ensures); fresh = search now_fresh }
 
 pub returns : goal.returns
-returns c = search checked_readied
+returns c = search (checked_readied, c.in_ok-test_tables.ensures)

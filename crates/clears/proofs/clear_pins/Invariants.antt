@@ -1,9 +1,5 @@
 use Rattle.clears.proofs.Clearing.{ClearingTo}
-use Prim.Native.Nat.{◌-◌}
 use Rattle.clears.proofs.clear_pins.Given as goal
 
 abbrev pub invariant-loop-i : goal.invariant-loop-i
 invariant-loop-i l = ClearingTo l.m l.initial.work l.k l.work l.i
-
-abbrev pub decreases-loop-i : goal.decreases-loop-i
-decreases-loop-i l = l.k - l.i

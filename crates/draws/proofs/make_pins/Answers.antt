@@ -1,23 +1,19 @@
 use mathlib.Core.Path.{refl}
-use Rattle.draws.proofs.Pinning.{empty_fits, empty_small, empty_blank, pins_full, pins_begun, pins_done}
-use borrow.Author.Tests.{not-true, not-false}
-use native.Mathlib.Omega.{arith}
+use Rattle.draws.proofs.Pinning.{empty_blank, pins_full, pins_begun, pins_done}
 use Rattle.draws.proofs.make_pins.Goals as goal
 
-pub overflow_add-at : goal.overflow_add-at
-overflow_add-at c = omega (arith, empty_small _ _ _ _ _ _ _ _ _ c.requires)
+pub clock_flags-requires-clause-blank : goal.clock_flags-requires-clause-blank
+clock_flags-requires-clause-blank c = search empty_blank
 
-pub overflow_add-at-2 : goal.overflow_add-at-2
-overflow_add-at-2 c = omega (arith, empty_small _ _ _ _ _ _ _ _ _ c.requires)
-
-pub clock_flags-step-requires : goal.clock_flags-step-requires
-clock_flags-step-requires c = record { fits = search empty_fits; blank = search empty_blank }
-
-pub returns-then-not-step : goal.returns-then-not-step
-returns-then-not-step c = search (pins_full, not-true)
+pub returns-in_err-tally : goal.returns-in_err-tally
+returns-in_err-tally c = rw c.from_residual.ensures (search (pins_full, c.in_err-tally.ensures))
 
 pub visit_pins-requires : goal.visit_pins-requires
-visit_pins-requires c = let a = c.args in pins_begun a.kinds.now a.starts.now a.list.now a.pins.now a.nets.now a.rooms a.work.now a.drivers.now a.outputs.now c.requires _ refl _ _ _ c.clock_flags-step.ensures (not-false _ c.if-not-step.false)
+visit_pins-requires c =
+    let a = c.args in let n = a.n in
+    pins_begun n.kinds.now n.starts.now n.list.now n.pins.now n.nets.now a.rooms a.work.now a.drivers.now a.outputs.now c.requires _ refl _ _ _ c.in_ok-tally.ensures
 
 pub returns : goal.returns
-returns c = let a = c.args in pins_done a.kinds.now a.starts.now a.list.now a.pins.now a.nets.now a.rooms a.work.now a.drivers.now a.outputs.now c.requires _ refl _ _ _ c.clock_flags-step.ensures (not-false _ c.if-not-step.false) _ _ _ _ c.visit_pins.ensures
+returns c =
+    let a = c.args in let n = a.n in
+    pins_done n.kinds.now n.starts.now n.list.now n.pins.now n.nets.now a.rooms a.work.now a.drivers.now a.outputs.now c.requires _ refl _ _ _ c.in_ok-tally.ensures _ _ _ _ c.visit_pins.ensures

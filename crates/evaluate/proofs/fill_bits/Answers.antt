@@ -1,17 +1,18 @@
 use Rattle.evaluate.proofs.Fillings.{fills, fills_end}
-use borrow.Author.Rules.{rules}
 use native.Mathlib.Omega.{arith}
-use lib.ListN.{length-set}
+use mathlib.Core.Path.{◌≡◌}
+use Prim.Native.Nat.{◌<◌}
+use lib.ListN.{length}
 use Rattle.evaluate.proofs.fill_bits.Goals as goal
 
 pub loop-u-init : goal.loop-u-init
-loop-u-init c = (search, search rules, search rules)
+loop-u-init c = search
 
 pub pin_bit-v-requires : goal.pin_bit-v-requires
-pin_bit-v-requires c = record { filling = search; u_in_bounds = search }
+pin_bit-v-requires c = record { filling = search; u_in_bounds = omega arith }
 
 pub loop-u-preserved : goal.loop-u-preserved
-loop-u-preserved c = (search fills, simp length-set (omega arith), simp length-set (omega arith))
+loop-u-preserved c = let l : c.loop-u.u < length c.loop-u.bits = omega arith in search fills
 
 pub returns : goal.returns
-returns c = search fills_end
+returns c = let e : c.loop-u.u ≡ length c.args.bits.now = omega arith in search fills_end

@@ -10,5 +10,5 @@ literal_bit-y-requires c = record { l_in_bounds = search second_in; l_bound = se
 pub returns-then-x-eq0 : goal.returns-then-x-eq0
 returns-then-x-eq0 c = search gate_off
 
-pub returns : goal.returns
-returns c = search gate_second
+pub returns-else-x-eq0 : goal.returns-else-x-eq0
+returns-else-x-eq0 c = search gate_second

@@ -6,8 +6,8 @@ use Rattle.graphs.proofs.mark_dffs.Goals as goal
 pub loop-k-init : goal.loop-k-init
 loop-k-init c = search pick_begins
 
-pub returns-then-not-joined : goal.returns-then-not-joined
-returns-then-not-joined c = search (each_fails, refl, not-true)
+pub returns-then-not-mark_new : goal.returns-then-not-mark_new
+returns-then-not-mark_new c = search (each_fails, refl, not-true)
 
 pub loop-k-preserved : goal.loop-k-preserved
 loop-k-preserved c = search (each_goes_on, not-false)

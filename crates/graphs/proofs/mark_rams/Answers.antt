@@ -6,8 +6,8 @@ use Rattle.graphs.proofs.mark_rams.Goals as goal
 pub loop-i-init : goal.loop-i-init
 loop-i-init c = search pick_begins
 
-pub returns-then-not-joined : goal.returns-then-not-joined
-returns-then-not-joined c = search (rams_fail, not-true)
+pub returns-then-not-mark_present : goal.returns-then-not-mark_present
+returns-then-not-mark_present c = search (rams_fail, not-true)
 
 pub loop-i-preserved : goal.loop-i-preserved
 loop-i-preserved c = search (rams_go_on, not-false)

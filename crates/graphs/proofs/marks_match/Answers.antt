@@ -5,8 +5,8 @@ use Rattle.graphs.proofs.marks_match.Goals as goal
 pub loop-u-init : goal.loop-u-init
 loop-u-init c = search scan_begins
 
-pub returns-then-not-agree : goal.returns-then-not-agree
-returns-then-not-agree c = search (scan_fails, not-true)
+pub returns-then-not-agrees : goal.returns-then-not-agrees
+returns-then-not-agrees c = search (scan_fails, not-true)
 
 pub loop-u-preserved : goal.loop-u-preserved
 loop-u-preserved c = search (scan_goes_on, not-false)

@@ -1,16 +1,15 @@
 use Rattle.graphs.proofs.Steps.{clear_first, clear_second, flops_differ, memories_tell}
 use borrow.Author.Tests.{not-true, not-false}
-use native.Mathlib.Omega.{arith}
 use Rattle.graphs.proofs.pins_match.Goals as goal
 
-pub dffs_match-first-requires : goal.dffs_match-first-requires
-dffs_match-first-requires c = record { pins_value = search; clear = search clear_first; pins_in_bounds = omega arith; n_in_bounds = omega arith }
+pub dffs_match-requires : goal.dffs_match-requires
+dffs_match-requires c = record { pins_value = search; clear = search clear_first; rows = search }
 
-pub returns-then-not-first : goal.returns-then-not-first
-returns-then-not-first c = search (flops_differ, not-true)
+pub returns-then-not-dffs_match : goal.returns-then-not-dffs_match
+returns-then-not-dffs_match c = search (flops_differ, not-true)
 
 pub rams_match-requires : goal.rams_match-requires
-rams_match-requires c = record { pins_value = search; clear = search (clear_second, not-false); pins_in_bounds = omega arith; n_in_bounds = omega arith; n_bound = omega arith }
+rams_match-requires c = record { pins_value = search; clear = search (clear_second, not-false); rows = search }
 
 pub returns : goal.returns
 returns c = search (memories_tell, not-false)

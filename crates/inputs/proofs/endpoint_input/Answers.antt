@@ -13,7 +13,7 @@ pub returns-then-num_endpoint_groups-e : goal.returns-then-num_endpoint_groups-e
 returns-then-num_endpoint_groups-e c = search (no_endpoint, not-false)
 
 pub find_input-p-requires : goal.find_input-p-requires
-find_input-p-requires c = let a = c.args in record { lent = lent a.c a.outputs.now a.dffs.now a.rams.now a.e a.i _ c.counts_fit.ensures c.if-not-counts_fit.false _ c.ends_long.ensures c.if-not-ends_long.false _ c.num_endpoint_groups.ensures; e_bound = omega arith }
+find_input-p-requires c = let a = c.args in record { lent = lent a.ends.counts a.ends.outputs.now a.ends.dffs.now a.ends.rams.now a.e a.i _ c.counts_fit.ensures c.if-not-counts_fit.false _ c.ends_long.ensures c.if-not-ends_long.false _ c.num_endpoint_groups.ensures; e_bound = omega arith }
 
 pub returns-then-p-eq0 : goal.returns-then-p-eq0
 returns-then-p-eq0 c = search (no_input, not-false)

@@ -9,7 +9,7 @@ pub returns-then-not-ends_long : goal.returns-then-not-ends_long
 returns-then-not-ends_long c = search (stage_short, not-true, not-false)
 
 pub place_input-p-requires : goal.place_input-p-requires
-place_input-p-requires c = let a = c.args in stage-lent a.c a.outputs.now a.dffs.now a.rams.now a.handed.now a.taken.now a.k a.i _ c.stage_within.ensures c.if-not-stage_within.false _ c.ends_long.ensures c.if-not-ends_long.false
+place_input-p-requires c = let a = c.args in stage-lent a.ends.counts a.ends.outputs.now a.ends.dffs.now a.ends.rams.now a.handed.now a.taken.now a.k a.i _ c.stage_within.ensures c.if-not-stage_within.false _ c.ends_long.ensures c.if-not-ends_long.false
 
 pub returns-then-p-eq0 : goal.returns-then-p-eq0
 returns-then-p-eq0 c = search (stage-none, not-false)

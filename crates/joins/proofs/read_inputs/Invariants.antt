@@ -1,9 +1,5 @@
 use Rattle.joins.proofs.Reading.{ReadingIns}
-use Prim.Native.Nat.{◌-◌}
 use Rattle.joins.proofs.read_inputs.Given as goal
 
 abbrev pub invariant-loop-i : goal.invariant-loop-i
 invariant-loop-i l = ReadingIns l.c l.outputs l.dffs l.rams l.m l.e l.k l.initial.work l.size l.work l.n l.i
-
-abbrev pub decreases-loop-i : goal.decreases-loop-i
-decreases-loop-i l = l.k - l.i

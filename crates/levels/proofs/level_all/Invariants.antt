@@ -1,9 +1,5 @@
 use Rattle.levels.proofs.Ranked.{LevelsTo}
-use Prim.Native.Nat.{◌-◌}
 use Rattle.levels.proofs.level_all.Given as goal
 
 abbrev pub invariant-loop-i : goal.invariant-loop-i
 invariant-loop-i l = LevelsTo l.drivers l.m l.initial.work l.k l.work l.i
-
-abbrev pub decreases-loop-i : goal.decreases-loop-i
-decreases-loop-i l = l.k - l.i

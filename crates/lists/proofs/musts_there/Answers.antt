@@ -1,19 +1,11 @@
-use Rattle.lists.proofs.Musts.{asking_begins, asking_more, musts_fails, musts_ends}
-use native.Mathlib.Omega.{arith}
-use borrow.Author.Tests.{not-true, not-false}
+use Rattle.std.proofs.Common.{rules, tests, refl, ◌∙◌}
+use Rattle.pins.proofs.Each.{all_below}
+use Rattle.lists.specs.Parts.{must_by}
+use Rattle.lists.proofs.Musts.{by_name_lem}
 use Rattle.lists.proofs.musts_there.Goals as goal
 
-pub loop-name-init : goal.loop-name-init
-loop-name-init c = search asking_begins
-
-pub must_there-there-requires : goal.must_there-there-requires
-must_there-there-requires c = record { n_in_bounds = search; inside = search; kind_bound = search; name_bound = omega arith }
-
-pub returns-then-not-there : goal.returns-then-not-there
-returns-then-not-there c = search (musts_fails, not-true)
-
-pub loop-name-preserved : goal.loop-name-preserved
-loop-name-preserved c = search (asking_more, not-false)
-
 pub returns : goal.returns
-returns c = search musts_ends
+returns c =
+    let a = c.args in
+    all_below (must_by a.pins.now a.entries.now a.kind) 17 _ _ _ c.all.ensures.ran refl (λ x b q k. search (rules, tests))
+    ∙ by_name_lem a.pins.now a.entries.now a.kind c.requires.kind_bound

@@ -1,16 +1,9 @@
-use Rattle.lists.proofs.Steps.{falls, rises}
-use Rattle.laws.proofs.Scans.{scan_passes, scan_stops}
-use Rattle.laws.proofs.Scans.{scan_begins, scan_ends}
+use Rattle.std.proofs.Common.{rules, tests, refl}
+use lib.ListN.{get_or}
+use Prim.Native.Nat.{◌+◌}
+use Rattle.laws.specs.Tests.{◌≤?◌}
+use Rattle.pins.proofs.Each.{all_below}
 use Rattle.lists.proofs.starts_rise.Goals as goal
 
-pub loop-cell-init : goal.loop-cell-init
-loop-cell-init c = search scan_begins
-
-pub returns-then-starts-cell : goal.returns-then-starts-cell
-returns-then-starts-cell c = search (scan_stops, falls)
-
-pub loop-cell-preserved : goal.loop-cell-preserved
-loop-cell-preserved c = search (scan_passes, rises)
-
 pub returns : goal.returns
-returns c = search scan_ends
+returns c = let a = c.args in all_below (λ k. get_or a.starts.now k 0 ≤? get_or a.starts.now (k + 1) 0) a.cells _ _ _ c.all.ensures.ran refl (λ x b q k. search (rules, tests))

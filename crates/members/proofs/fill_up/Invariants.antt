@@ -1,9 +1,5 @@
 use Rattle.members.proofs.Loops.{FillingUp}
-use Prim.Native.Nat.{◌-◌}
 use Rattle.members.proofs.fill_up.Given as goal
 
 abbrev pub invariant-loop-i : goal.invariant-loop-i
 invariant-loop-i l = FillingUp l.initial.work l.a l.cap l.work l.n l.i
-
-abbrev pub decreases-loop-i : goal.decreases-loop-i
-decreases-loop-i l = l.cap - l.i

@@ -1,15 +1,10 @@
-use borrow.Author.Tests.{not-true, not-false}
-use Rattle.laws.proofs.Scans.{scan_begins, scan_goes_on, scan_fails, scan_ends}
+use Rattle.std.proofs.Common.{rules, tests, refl, length}
+use lib.ListN.{get_or}
+use Rattle.pins.proofs.Each.{all_below}
+use Rattle.netlist.specs.Tables.{kind_fits}
 use Rattle.netlist.proofs.kinds_fit.Goals as goal
 
-pub loop-cell-init : goal.loop-cell-init
-loop-cell-init c = search scan_begins
-
-pub returns-then-not-fits : goal.returns-then-not-fits
-returns-then-not-fits c = search (scan_fails, not-true)
-
-pub loop-cell-preserved : goal.loop-cell-preserved
-loop-cell-preserved c = search (scan_goes_on, not-false)
-
 pub returns : goal.returns
-returns c = search scan_ends
+returns c =
+    let kinds = c.args.kinds.now in
+    all_below (λ k. kind_fits (get_or kinds k 0) k) (length kinds) _ _ _ c.all.ensures.ran refl (λ x b q k. search (rules, tests))

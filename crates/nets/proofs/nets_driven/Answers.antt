@@ -1,15 +1,7 @@
-use Rattle.laws.proofs.Scans.{scan_begins, scan_goes_on, scan_fails, scan_ends}
-use borrow.Author.Tests.{not-true, not-false}
+use Rattle.std.proofs.Common.{rules, tests, refl, length}
+use Rattle.pins.proofs.Each.{all_below}
+use Rattle.nets.specs.Driven.{net_driven}
 use Rattle.nets.proofs.nets_driven.Goals as goal
 
-pub loop-net-init : goal.loop-net-init
-loop-net-init c = search scan_begins
-
-pub returns-then-not-fits : goal.returns-then-not-fits
-returns-then-not-fits c = search (scan_fails, not-true)
-
-pub loop-net-preserved : goal.loop-net-preserved
-loop-net-preserved c = search (scan_goes_on, not-false)
-
 pub returns : goal.returns
-returns c = search scan_ends
+returns c = let a = c.args in all_below (net_driven a.pins.now a.size a.nets.now) (length a.nets.now) _ _ _ c.all.ensures.ran refl (λ x b q k. search (rules, tests))

@@ -1,5 +1,4 @@
 use Rattle.picks.proofs.Lows.{low_begins, low-number, low_pin, low_goes_on, low_fails, low_ends}
-use borrow.Author.Tests.{not-true, not-false}
 use Rattle.picks.proofs.inputs_low.Goals as goal
 
 pub loop-i-init : goal.loop-i-init
@@ -12,10 +11,10 @@ pub low_input-low-requires : goal.low_input-low-requires
 low_input-low-requires c = record { m_in_bounds = search; p_lt_m = search low_pin }
 
 pub returns-then-not-low : goal.returns-then-not-low
-returns-then-not-low c = search (low_fails, not-true)
+returns-then-not-low c = search low_fails
 
 pub loop-i-preserved : goal.loop-i-preserved
-loop-i-preserved c = search (low_goes_on, not-false)
+loop-i-preserved c = search low_goes_on
 
 pub returns : goal.returns
 returns c = search low_ends

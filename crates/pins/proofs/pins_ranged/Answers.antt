@@ -1,15 +1,7 @@
-use Rattle.laws.proofs.Scans.{scan_begins, scan_goes_on, scan_fails, scan_ends}
-use borrow.Author.Tests.{not-true, not-false}
+use Rattle.std.proofs.Common.{rules, tests, refl}
+use Rattle.pins.specs.Words.{ranged}
+use Rattle.pins.proofs.Each.{all_below}
 use Rattle.pins.proofs.pins_ranged.Goals as goal
 
-pub loop-p-init : goal.loop-p-init
-loop-p-init c = search scan_begins
-
-pub returns-then-not-fits : goal.returns-then-not-fits
-returns-then-not-fits c = search (scan_fails, not-true)
-
-pub loop-p-preserved : goal.loop-p-preserved
-loop-p-preserved c = search (scan_goes_on, not-false)
-
 pub returns : goal.returns
-returns c = search scan_ends
+returns c = let a = c.args in all_below (ranged a.pins.now a.cells a.nets) a.size _ _ _ c.all.ensures.ran refl (λ x b q k. search (rules, tests))

@@ -1,9 +1,5 @@
 use Rattle.subsets.proofs.Full.{CountingUp}
-use Prim.Native.Nat.{◌-◌}
 use Rattle.subsets.proofs.count_up.Given as goal
 
 abbrev pub invariant-loop-i : goal.invariant-loop-i
 invariant-loop-i l = CountingUp l.initial.to l.to l.n l.i
-
-abbrev pub decreases-loop-i : goal.decreases-loop-i
-decreases-loop-i l = l.n - l.i

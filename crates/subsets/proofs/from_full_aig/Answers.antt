@@ -1,15 +1,22 @@
-use Rattle.subsets.proofs.Full.{full_refused, full_zeroed, full_fits, full_few, full_made, full_sound}
+use Rattle.std.proofs.Common.{◌≤◌}
+use Rattle.std.proofs.lemmas.Result.{err_from_is_err_and}
+use Rattle.subsets.proofs.Full.{full_refused, full_zeroed, full_fits, full_few, full_made}
 use native.Mathlib.Omega.{arith}
+use Rattle.std.proofs.Common.{◌≤◌}
+use Rattle.std.proofs.lemmas.Result.{err_from_is_err_and}
 use Rattle.subsets.proofs.from_full_aig.Goals as goal
 
-pub returns-then-k-ne0 : goal.returns-then-k-ne0
-returns-then-k-ne0 c = search full_refused
+pub returns-in_err-test_full : goal.returns-in_err-test_full
+returns-in_err-test_full c =
+    let p = err_from_is_err_and c.from_residual.result c.from_residual.ensures.1 in
+    let q = c.in_err-test_full.ensures in
+    rw (p.1, p.2) (search full_refused)
 
 pub count_up-requires : goal.count_up-requires
-count_up-requires c = record { to_value = search full_zeroed; n_in_bounds = search full_fits; n_bound = search full_few }
+count_up-requires c = let q = c.in_ok-test_full.ensures in record { to_value = search full_zeroed; n_in_bounds = search full_fits; n_bound = search full_few }
 
-pub overflow_cast-count : goal.overflow_cast-count
-overflow_cast-count c = omega (arith, (full_sound _ _ _ c.full_number-k.ensures c.if-k-ne0.false).few, c.num_endpoint_groups-n.ensures)
+pub overflow_cast-result : goal.overflow_cast-result
+overflow_cast-result c = let q = c.in_ok-test_full.ensures in let h : c.num_endpoint_groups-n.result ≤ 3145728 = search full_few in omega arith
 
 pub returns : goal.returns
-returns c = search full_made
+returns c = let q = c.in_ok-test_full.ensures in search full_made

@@ -1,11 +1,16 @@
+use Rattle.std.proofs.lemmas.Result.{err_from_is_err_and}
 use Rattle.subsets.proofs.Places.{subset-refused, subset_ready, subset_picked}
+use Rattle.std.proofs.lemmas.Result.{err_from_is_err_and}
 use Rattle.subsets.proofs.to_endpoint_subset.Goals as goal
 
-pub returns-then-k-ne0 : goal.returns-then-k-ne0
-returns-then-k-ne0 c = search subset-refused
+pub returns-in_err-test_subset : goal.returns-in_err-test_subset
+returns-in_err-test_subset c =
+    let p = err_from_is_err_and c.from_residual.result c.from_residual.ensures.1 in
+    let q = c.in_err-test_subset.ensures in
+    rw (p.1, p.2) (search subset-refused)
 
 pub pick_both-requires : goal.pick_both-requires
-pick_both-requires c = let a = c.args in subset_ready a.handed.now a.taken.now a.subset.now a.handed_out.now a.taken_out.now _ _ c.zero.ensures c.zero-2.ensures _ c.subset_number-k.ensures _ c.leading_places-n.ensures c.if-k-ne0.false
+pick_both-requires c = let q = c.in_ok-test_subset.ensures in search subset_ready
 
 pub returns : goal.returns
 returns c = search subset_picked

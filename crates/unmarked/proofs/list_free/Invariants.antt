@@ -1,11 +1,8 @@
 use Rattle.unmarked.specs.Free.{free_if}
-use Rattle.roles.specs.Reading.{tables, kind_at}
-use Prim.Native.Nat.{◌-◌}
+use Rattle.rules.specs.Tables.{netlist_in}
+use Rattle.roles.specs.Reading.{kind_at}
 use Rattle.unmarked.proofs.Freeing.{Trying}
 use Rattle.unmarked.proofs.list_free.Given as goal
 
 abbrev pub invariant-loop-i : goal.invariant-loop-i
-invariant-loop-i l = Trying (free_if (tables l.kinds l.starts l.list l.pins l.nets) (kind_at l.kind)) l.list l.at l.n l.i
-
-abbrev pub decreases-loop-i : goal.decreases-loop-i
-decreases-loop-i l = l.n - l.i
+invariant-loop-i l = Trying (free_if (netlist_in l.n) (kind_at l.kind)) l.n.list.now l.at l.count l.i

@@ -1,6 +1,3 @@
-use native.Mathlib.Omega.{arith}
-use borrow.Author.Tests.{not-true, not-false}
-use borrow.Author.Rules.{rules}
 use Rattle.laws.proofs.Scans.{scan_begins, scan_goes_on}
 use Rattle.unmarked.proofs.Freeing.{cells_fail, cells_end}
 use Rattle.unmarked.proofs.markers_free.Goals as goal
@@ -8,14 +5,11 @@ use Rattle.unmarked.proofs.markers_free.Goals as goal
 pub loop-cell-init : goal.loop-cell-init
 loop-cell-init c = search scan_begins
 
-pub cell_free-free-requires : goal.cell_free-free-requires
-cell_free-free-requires c = record { fits = search rules; told = search rules; cell_in_bounds = omega arith }
-
 pub returns-then-not-free : goal.returns-then-not-free
-returns-then-not-free c = search (cells_fail, not-true)
+returns-then-not-free c = search cells_fail
 
 pub loop-cell-preserved : goal.loop-cell-preserved
-loop-cell-preserved c = search (scan_goes_on, not-false)
+loop-cell-preserved c = search scan_goes_on
 
 pub returns : goal.returns
 returns c = search cells_end

@@ -1,8 +1,5 @@
-use Rattle.visits.proofs.Runs.{event_in, leaves_next, enters_next}
+use Rattle.visits.proofs.Runs.{leaves_next, enters_next}
 use Rattle.visits.proofs.act.Goals as goal
-
-pub word-event-requires : goal.word-event-requires
-word-event-requires c = search event_in
 
 pub leave_pin-requires : goal.leave_pin-requires
 leave_pin-requires c = search leaves_next

@@ -1,39 +1,26 @@
-use Rattle.visits.proofs.Leaves.{leave_take, copy_in, leave_copy, port_in, output_in, leave_output, leave_input, first_place, second_place, leave_and, stored_cell, stored-own, leave_flop, read-start, read_place, leave_ram}
-use Rattle.visits.proofs.Sorts.{fit_of, below_of, table_of, lists_of, own_of, take_of, rams_room, rams_now, outputs_few}
+use Rattle.visits.proofs.Leaves.{leave_take, copy_in, leave_copy, port_in, output_in, leave_output, leave_input, first_place, second_place, leave_and, stored-own, leave_flop, read_place, leave_ram}
 use Rattle.visits.proofs.leave_pin.Goals as goal
-
-pub role-what-requires : goal.role-what-requires
-role-what-requires c = record { fits = search fit_of; p_in_bounds = search below_of }
-
-pub take-requires : goal.take-requires
-take-requires c = search take_of
 
 pub operand-lit-requires : goal.operand-lit-requires
 operand-lit-requires c = search copy_in
 
-pub take-requires-in-Copy : goal.take-requires-in-Copy
-take-requires-in-Copy c = search take_of
-
 pub literal_at-lit-requires : goal.literal_at-lit-requires
 literal_at-lit-requires c = search port_in
 
-pub add_output-requires : goal.add_output-requires
-add_output-requires c = record { p_lt_m = search below_of; word_in_bounds = search output_in; outputs_len_bound = search outputs_few }
+pub add_output-requires-clause-word_in_bounds : goal.add_output-requires-clause-word_in_bounds
+add_output-requires-clause-word_in_bounds c = search output_in
 
-pub port_out-requires : goal.port_out-requires
-port_out-requires c = record { table = search table_of; p_bound = search own_of }
+pub and_out-requires-clause-a_bound : goal.and_out-requires-clause-a_bound
+and_out-requires-clause-a_bound c = search first_place
 
-pub and_out-requires : goal.and_out-requires
-and_out-requires c = record { table = search table_of; p_bound = search own_of; a_bound = search first_place; b_bound = search second_place }
+pub and_out-requires-clause-b_bound : goal.and_out-requires-clause-b_bound
+and_out-requires-clause-b_bound c = search second_place
 
-pub stored_out-requires : goal.stored_out-requires
-stored_out-requires c = record { fits = search fit_of; cell_in_bounds = search stored_cell; stored = search stored-own; list_bound = search lists_of; p_in_bounds = search below_of; table = search table_of }
+pub stored_out-requires-clause-stored : goal.stored_out-requires-clause-stored
+stored_out-requires-clause-stored c = search stored-own
 
-pub word-place-requires : goal.word-place-requires
-word-place-requires c = search read-start
-
-pub make_ram-requires : goal.make_ram-requires
-make_ram-requires c = record { table = search table_of; p_lt_m = search below_of; place_lt_m = search read_place; m_bound = search lists_of; room_bound = search rams_room; rams_bound = search rams_now }
+pub make_ram-requires-clause-place_lt_m : goal.make_ram-requires-clause-place_lt_m
+make_ram-requires-clause-place_lt_m c = search read_place
 
 pub returns-in-Take : goal.returns-in-Take
 returns-in-Take c = search leave_take

@@ -1,11 +1,9 @@
 use Rattle.walk.proofs.Visits.{Visiting}
 use Rattle.walk.specs.State.{left}
-use lib.ListN.{length}
-use mathlib.Core.Path.{◌≡◌}
 use Rattle.walk.proofs.visit.Given as goal
 
-abbrev pub invariant-loop-h : goal.invariant-loop-h
-invariant-loop-h l = Visiting l.drivers l.m l.initial.work l.count l.root l.work l.h l.k × (length l.work ≡ length l.initial.work)
+abbrev pub invariant-loop-at : goal.invariant-loop-at
+invariant-loop-at l = Visiting l.drivers l.m l.initial.work l.count l.root l.work l.at.height l.at.count
 
-abbrev pub decreases-loop-h : goal.decreases-loop-h
-decreases-loop-h l = left l.m l.work l.h l.k
+abbrev pub decreases-loop-at : goal.decreases-loop-at
+decreases-loop-at l = left l.m l.work l.at.height l.at.count

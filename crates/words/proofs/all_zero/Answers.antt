@@ -1,16 +1,15 @@
--- `words::all_zero` meets its contract: the first i words are 0.
-use native.Mathlib.Omega.{arith}
-use Rattle.words.proofs.Tables.{unused_begins, unused_goes_on, unused_ends, unused_fails}
+use borrow.Author.Rules.{rules}
+use borrow.Author.Tests.{tests}
+use Prim.Native.Nat.{ℕ}
+use mathlib.Core.Path.{◌≡◌}
+use mathlib.Core.Bool.{true, false}
+use Rattle.std.specs.Prelude.{◌==◌}
+use Rattle.std.proofs.lemmas.Iterator.{cases_from_all, YieldsList-from_slice}
+use Rattle.laws.proofs.Indices.{every-from_cases}
+use Rattle.words.specs.Tables.{all_zero}
 use Rattle.words.proofs.all_zero.Goals as goal
 
-pub loop-i-init : goal.loop-i-init
-loop-i-init c = (search unused_begins, omega arith)
-
-pub returns-then-x-ne0 : goal.returns-then-x-ne0
-returns-then-x-ne0 c = search unused_fails
-
-pub loop-i-preserved : goal.loop-i-preserved
-loop-i-preserved c = (search unused_goes_on, omega arith)
-
 pub returns : goal.returns
-returns c = search unused_ends
+unfolding all_zero
+returns c = every-from_cases (λ (x : ℕ). x == 0) 0 c.args.s.now _
+    (cases_from_all _ _ _ (λ x. (x == 0) ≡ true) (λ x. (x == 0) ≡ false) c.all.ensures.ran (YieldsList-from_slice c.args.s.now cc) (λ x q k. search (rules, tests)) (λ x q k. search (rules, tests)))

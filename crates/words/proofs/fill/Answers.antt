@@ -1,14 +1,10 @@
--- `words::fill` meets its contract: after i turns i words are written.
+use Prim.Native.Nat.{ℕ}
 use native.Mathlib.Omega.{arith}
 use borrow.Author.Rules.{rules}
-use Rattle.words.proofs.Tables.{writing_begins, fill_goes_on, fill_ends}
+use lib.ListN.{length-replicate}
+use Rattle.words.proofs.Tables.{put_mid_written, range_filled}
 use Rattle.words.proofs.fill.Goals as goal
 
-pub loop-i-init : goal.loop-i-init
-loop-i-init c = (search writing_begins, search rules)
-
-pub loop-i-preserved : goal.loop-i-preserved
-loop-i-preserved c = (search fill_goes_on, omega arith)
-
 pub returns : goal.returns
-returns c = search fill_ends
+returns c = let a = c.args in
+    put_mid_written _ _ _ _ _ (range_filled a.s.now _ a.at a.n a.v c.requires (c.fill.ensures.after (λ y e. search rules))) (omega (arith, length-replicate {A = ℕ}))
