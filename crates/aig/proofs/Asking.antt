@@ -5,29 +5,36 @@ use mathlib.Core.List.{List}
 use Prim.Native.Nat.{ℕ, zero, suc, ◌+◌, ◌*◌}
 use native.Mathlib.Omega.{arith}
 use lib.ListN.{length}
+use Rattle.std.specs.Prelude.{Option, Some, None, Result, Ok, Err}
 use Rattle.laws.specs.Tests.{refuse}
-use Rattle.laws.proofs.Tests.{true≢false, first_refused, next-refused, refused, passed}
+use Rattle.laws.proofs.Tests.{next-refused, refused, passed}
 use Rattle.laws.proofs.Words.{zeros-length}
 use Rattle.rules.specs.declared.Rooms.{Rooms}
-use Rattle.rules.specs.declared.Built.TheVariants.{Made, Refused}
+use Rattle.rules.specs.declared.Refusal.{Refusal}
+use Rattle.rules.specs.declared.Refusal.TheVariants.{Room}
+use Rattle.rules.specs.declared.Tally.{Tally}
 use Rattle.rules.specs.Netlist.{Netlist, size}
 use Rattle.rules.specs.Build.{graph_of, tally}
 use Rattle.rules.specs.Refusals.{netlist_number, room_fits}
-use Rattle.rules.specs.Answers.{BuildTables, build_tables, build_answer}
+use Rattle.rules.specs.Answers.{BuildLengths, BuildTables, build_tables, build_answer, done_of}
+use Rattle.rules.proofs.Tables.{clash}
+use Rattle.walk.proofs.Answered.{refused_too, or_refused}
 use Rattle.roles.specs.Reading.{tables}
 use Rattle.checks.specs.Ready.{Asked}
-use Rattle.drafts.specs.declared.Counted.{Counted}
-use Rattle.prepares.specs.Prepared.{Prepared, prepared, turned_away}
+use Rattle.prepares.specs.Prepared.{MadeReady, TurnedAway}
 use Rattle.draws.specs.Drawing.{empty, undrawn}
 use Rattle.aig.specs.Building.{lent, lengths_of, blank, asked, Unfinished, unfinished, Finished, finished, too_small, Waiting, waiting, number, BuiltAs}
 
--- ---- a refusal by its number, and success
-refused_as : (n : Netlist) (rm : Rooms) (w w' : List ℕ) (t : BuildTables) (k : ℕ) → (k ≡ 0 → ⊥) → number n rm ≡ k → t ≡ blank (asked (size n) rm (length w)) → length w' ≡ length w
-    → BuiltAs n rm w w' t (Refused k)
-refused_as n rm w w' t zero z e b l = absurd (z refl)
-refused_as n rm w w' t (suc k) z e b l = record {
-  answer = sym (ap (λ (x : ℕ). build_answer x n) e);
-  tables = b ∙ sym (ap (λ (x : ℕ). build_tables x n (asked (size n) rm (length w))) e);
+-- ---- a refusal, and success
+pub blank-held : (k : ℕ) (n : Netlist) (l : BuildLengths) (e : Refusal) → Err e ≡ done_of k → blank l ≡ build_tables k n l
+blank-held zero n l e q = let z : Err e ≡ Ok tt = q in clash (cc)
+blank-held (suc k) n l e q = refl
+
+refused_as : (n : Netlist) (rm : Rooms) (w w' : List ℕ) (t : BuildTables) (e : Refusal) → Err e ≡ done_of (number n rm) → t ≡ blank (asked (size n) rm (length w)) → length w' ≡ length w
+    → BuiltAs n rm w w' t (Err e)
+refused_as n rm w w' t e q b l = record {
+  answer = refused_too (number n rm) (tally (graph_of n)) e q;
+  tables = b ∙ blank-held (number n rm) n (asked (size n) rm (length w)) e q;
   long = l;
 }
 
@@ -60,58 +67,39 @@ module _ (kinds starts list pins nets : List ℕ) (rm : Rooms) (w ws os fs rs ls
       from : Waiting kinds starts list pins rm w (lent ws os fs rs ls ss es) → lent ws os fs rs ls ss es ≡ blank (asked (length list) rm (length w))
       from (waiting a b c d e) = b
 
-  module _ (w₁ : List ℕ) (r : ℕ) (p : Prepared (tables kinds starts list pins nets) w w₁ r) where
-    pub asked_away : (r ≡ 0 → ⊥) → BuiltAs (tables kinds starts list pins nets) rm w w₁ (lent ws os fs rs ls ss es) (Refused r)
-    asked_away z = from p
-      where
-        from : Prepared n w w₁ r → BuiltAs n rm w w₁ (lent ws os fs rs ls ss es) (Refused r)
-        from (prepared a b c d e f) = absurd (z a)
-        from (turned_away a b l) =
-            refused_as n rm w w₁ (lent ws os fs rs ls ss es) r z (first_refused (netlist_number n) (refuse 11 (room_fits (tally (graph_of n)) rm)) r (sym a) z) blank_all l
+  module _ (w₁ : List ℕ) where
+    pub asked_away : (e : Refusal) → TurnedAway (tables kinds starts list pins nets) w w₁ e → BuiltAs (tables kinds starts list pins nets) rm w w₁ (lent ws os fs rs ls ss es) (Err e)
+    asked_away e p = refused_as n rm w w₁ (lent ws os fs rs ls ss es) e (or_refused (netlist_number n) (refuse 11 (room_fits (tally (graph_of n)) rm)) tt e p.answer) blank_all p.size_kept
 
-    module _ (z : r ≡ 0) where
+    module _ (p : MadeReady (tables kinds starts list pins nets) w w₁) where
       pub asked_ready : Unfinished (tables kinds starts list pins nets) rm w₁ (lent ws os fs rs ls ss es)
-      asked_ready = from u p
+      asked_ready = from u
         where
-          from : Waiting kinds starts list pins rm w (lent ws os fs rs ls ss es) → Prepared n w w₁ r → Unfinished n rm w₁ (lent ws os fs rs ls ss es)
-          from (waiting a b c d e) (turned_away x y l) = absurd (y z)
-          from (waiting a b c d e) (prepared x y f g h l) = unfinished b
-              (undrawn (empty f g h c (ap (λ (t : BuildTables). t.drivers) b) (ap (λ (t : BuildTables). t.outputs) b) (omega (arith, e, l)))
+          from : Waiting kinds starts list pins rm w (lent ws os fs rs ls ss es) → Unfinished n rm w₁ (lent ws os fs rs ls ss es)
+          from (waiting a b c d e) = unfinished (b ∙ ap (λ (k : ℕ). blank (asked (length list) rm k)) (sym p.size_kept))
+              (undrawn (empty p.fits p.accepted p.cleared c (ap (λ (t : BuildTables). t.drivers) b) (ap (λ (t : BuildTables). t.outputs) b) (omega (arith, e, p.size_kept)))
               (ap (λ (t : BuildTables). t.dffs) b) (ap (λ (t : BuildTables). t.rams) b) d)
 
-      accepted_so : (netlist_number n ≡ 0) × (length w₁ ≡ length w)
-      accepted_so = from p
-        where
-          from : Prepared n w w₁ r → (netlist_number n ≡ 0) × (length w₁ ≡ length w)
-          from (turned_away x y l) = absurd (y z)
-          from (prepared x y f g h l) = (y, l)
-
       eleven : number n rm ≡ refuse 11 (room_fits (tally (graph_of n)) rm)
-      eleven = next-refused (netlist_number n) (refuse 11 (room_fits (tally (graph_of n)) rm)) accepted_so.0
+      eleven = next-refused (netlist_number n) (refuse 11 (room_fits (tally (graph_of n)) rm)) p.number
 
-      module _ (w₂ ws₂ os₂ fs₂ rs₂ ls₂ ss₂ es₂ : List ℕ) (step : Counted)
-          (f : Finished (tables kinds starts list pins nets) rm w₁ (lent ws os fs rs ls ss es) w₂ (lent ws₂ os₂ fs₂ rs₂ ls₂ ss₂ es₂) step) where
-        pub asked_made : step.fits ≡ true → BuiltAs (tables kinds starts list pins nets) rm w w₂ (lent ws₂ os₂ fs₂ rs₂ ls₂ ss₂ es₂) (Made step.tally)
-        asked_made y = from f
-          where
-            from : Finished n rm w₁ (lent ws os fs rs ls ss es) w₂ (lent ws₂ os₂ fs₂ rs₂ ls₂ ss₂ es₂) step
-                → BuiltAs n rm w w₂ (lent ws₂ os₂ fs₂ rs₂ ls₂ ss₂ es₂) (Made step.tally)
-            from (too_small x a b l) = true≢false step.fits y x
-            from (finished x a b t l) =
-                let zero-so : number n rm ≡ 0 = eleven ∙ passed 11 (room_fits (tally (graph_of n)) rm) a in record {
-                  answer = ap Made t ∙ sym (ap (λ (k : ℕ). build_answer k n) zero-so);
-                  tables = b ∙ sym (ap (λ (k : ℕ). build_tables k n (asked (size n) rm (length w))) zero-so);
-                  long = l ∙ accepted_so.1;
-                }
+      module _ (w₂ ws₂ os₂ fs₂ rs₂ ls₂ ss₂ es₂ : List ℕ) where
+        pub asked_made : (t : Tally) → Finished (tables kinds starts list pins nets) rm w₁ (lent ws os fs rs ls ss es) w₂ (lent ws₂ os₂ fs₂ rs₂ ls₂ ss₂ es₂) (Some t)
+            → BuiltAs (tables kinds starts list pins nets) rm w w₂ (lent ws₂ os₂ fs₂ rs₂ ls₂ ss₂ es₂) (Ok t)
+        asked_made t (too_small x a b l) = let q : Some t ≡ None = x in clash (cc)
+        asked_made t (finished v x a b c l) =
+            let q : v ≡ t = cc in
+            let zero-so : number n rm ≡ 0 = eleven ∙ passed 11 (room_fits (tally (graph_of n)) rm) a in record {
+              answer = ap Ok (sym q ∙ c) ∙ sym (ap (λ (k : ℕ). build_answer k n) zero-so);
+              tables = b ∙ (λ i. build_tables (sym zero-so i) n (asked (size n) rm (p.size_kept i)));
+              long = l ∙ p.size_kept;
+            }
 
-        pub asked_full : step.fits ≡ false → (ws₃ os₃ fs₃ rs₃ ls₃ ss₃ es₃ : List ℕ)
+        pub asked_full : Finished (tables kinds starts list pins nets) rm w₁ (lent ws os fs rs ls ss es) w₂ (lent ws₂ os₂ fs₂ rs₂ ls₂ ss₂ es₂) None → (ws₃ os₃ fs₃ rs₃ ls₃ ss₃ es₃ : List ℕ)
             → lent ws₃ os₃ fs₃ rs₃ ls₃ ss₃ es₃ ≡ blank (lengths_of (lent ws₂ os₂ fs₂ rs₂ ls₂ ss₂ es₂) 0)
-            → BuiltAs (tables kinds starts list pins nets) rm w w₂ (lent ws₃ os₃ fs₃ rs₃ ls₃ ss₃ es₃) (Refused 11)
-        asked_full y ws₃ os₃ fs₃ rs₃ ls₃ ss₃ es₃ c = from f
-          where
-            from : Finished n rm w₁ (lent ws os fs rs ls ss es) w₂ (lent ws₂ os₂ fs₂ rs₂ ls₂ ss₂ es₂) step
-                → BuiltAs n rm w w₂ (lent ws₃ os₃ fs₃ rs₃ ls₃ ss₃ es₃) (Refused 11)
-            from (finished x a b t l) = true≢false step.fits x y
-            from (too_small x a b l) = refused_as n rm w w₂ (lent ws₃ os₃ fs₃ rs₃ ls₃ ss₃ es₃) 11 (λ e. omega (arith, e)) (eleven ∙ refused 11 (room_fits (tally (graph_of n)) rm) a)
-                (blank_again (length list) rm (length w) (lent ws os fs rs ls ss es) (lent ws₂ os₂ fs₂ rs₂ ls₂ ss₂ es₂) (lent ws₃ os₃ fs₃ rs₃ ls₃ ss₃ es₃) blank_all b c)
-                (l ∙ accepted_so.1)
+            → BuiltAs (tables kinds starts list pins nets) rm w w₂ (lent ws₃ os₃ fs₃ rs₃ ls₃ ss₃ es₃) (Err Room)
+        asked_full (finished v x a b c l) ws₃ os₃ fs₃ rs₃ ls₃ ss₃ es₃ o = let q : None ≡ Some v = x in clash (cc)
+        asked_full (too_small x a b l) ws₃ os₃ fs₃ rs₃ ls₃ ss₃ es₃ o = refused_as n rm w w₂ (lent ws₃ os₃ fs₃ rs₃ ls₃ ss₃ es₃) Room
+            (ap done_of (sym (eleven ∙ refused 11 (room_fits (tally (graph_of n)) rm) a)))
+            (blank_again (length list) rm (length w) (lent ws os fs rs ls ss es) (lent ws₂ os₂ fs₂ rs₂ ls₂ ss₂ es₂) (lent ws₃ os₃ fs₃ rs₃ ls₃ ss₃ es₃) blank_all b o)
+            (l ∙ p.size_kept)

@@ -6,19 +6,21 @@ use Prim.Native.Nat.{ℕ, zero, suc, ◌+◌, ◌*◌, ◌≤◌}
 use native.Mathlib.Omega.{arith}
 use lib.ListN.{length}
 use borrow.Author.Tests.{eqb-true, leb-true}
-use Rattle.std.specs.Prelude.{◌==◌}
+use Rattle.std.specs.Prelude.{◌==◌, Result, Ok, Err}
 use Rattle.laws.specs.Tests.{◌≤?◌, or_else, refuse}
 use Rattle.laws.specs.Words.{zeros}
-use Rattle.laws.proofs.Tests.{and_l, and_r, not_refused, last_refused, next-refused, first_refused}
+use Rattle.laws.proofs.Tests.{and_l, and_r, not_refused, last_refused, next-refused}
 use Rattle.laws.proofs.Words.{zeros-length}
 use Rattle.rules.specs.declared.NetlistCounts.{NetlistCounts}
 use Rattle.rules.specs.declared.Rooms.{Rooms}
-use Rattle.rules.specs.declared.Built.{Built}
-use Rattle.rules.specs.declared.Built.TheVariants.{Refused}
+use Rattle.rules.specs.declared.Refusal.{Refusal}
+use Rattle.rules.specs.declared.Tally.{Tally}
+use Rattle.rules.specs.Build.{graph_of, tally}
 use Rattle.rules.specs.Netlist.{Netlist}
 use Rattle.rules.specs.Bounds.{netlist_within, rooms_within, build_work}
-use Rattle.rules.specs.Answers.{BuildLengths, BuildTables, build_number, build_tables, build_answer, netlist_long, rooms_long}
+use Rattle.rules.specs.Answers.{BuildLengths, BuildTables, build_number, build_tables, build_answer, netlist_long, rooms_long, done_of}
 use Rattle.rules.proofs.Tables.{four_true, five_true}
+use Rattle.walk.proofs.Answered.{number_zero, refused_too, or_refused}
 use Rattle.roles.specs.Reading.{tables}
 use Rattle.netlist.specs.Tables.{long_by}
 use Rattle.netlist.proofs.Whole.{now_long}
@@ -26,6 +28,7 @@ use Rattle.checks.specs.Ready.{Asked}
 use Rattle.visits.specs.Drafting.{Sized}
 use Rattle.sizes.specs.declared.Sizes.{Sizes}
 use Rattle.sizes.specs.Lengths.{records_long, results_long, sizes_number}
+use Rattle.aig.proofs.Asking.{blank-held}
 use Rattle.aig.specs.Building.{lent, lengths_of, blank, asked, Waiting, waiting, number, BuiltAs, Answered}
 
 abbrev pub sizes_of : List ℕ → List ℕ → List ℕ → List ℕ → List ℕ → BuildLengths → Sizes
@@ -162,8 +165,7 @@ module _ (c : NetlistCounts) (rm : Rooms) (kinds starts list pins nets : List �
 
 -- ---- the call
 module _ (c : NetlistCounts) (rm : Rooms) (kinds starts list pins nets : List ℕ) (t₀ : BuildTables) (k : ℕ) (ws os fs rs ls ss es w : List ℕ)
-    (clear : lent ws os fs rs ls ss es ≡ blank (lengths_of t₀ 0)) (zeroed : w ≡ zeros k) (r : ℕ)
-    (er : r ≡ sizes_number c rm (sizes_of kinds starts list pins nets (lengths_of (lent ws os fs rs ls ss es) (length w)))) where
+    (clear : lent ws os fs rs ls ss es ≡ blank (lengths_of t₀ 0)) (zeroed : w ≡ zeros k) where
   abbrev l₀ : BuildLengths
   l₀ = lengths_of t₀ k
 
@@ -179,27 +181,28 @@ module _ (c : NetlistCounts) (rm : Rooms) (kinds starts list pins nets : List �
     work = (ap length zeroed ∙ zeros-length k) i;
   })
 
-  tested : r ≡ sizes_number c rm (sizes_of kinds starts list pins nets (lengths_of t₀ k))
-  tested = er ∙ ap (λ (l : BuildLengths). sizes_number c rm (sizes_of kinds starts list pins nets l)) same_long
+  abbrev tested : ℕ
+  tested = sizes_number c rm (sizes_of kinds starts list pins nets (lengths_of (lent ws os fs rs ls ss es) (length w)))
 
-  whole : build_number c rm (tables kinds starts list pins nets) (lengths_of t₀ k) ≡ or_else r (number (tables kinds starts list pins nets) rm)
-  whole = number_so c rm kinds starts list pins nets l₀ ∙ ap (λ (x : ℕ). or_else x (number (tables kinds starts list pins nets) rm)) (sym tested)
+  whole : build_number c rm (tables kinds starts list pins nets) (lengths_of t₀ k) ≡ or_else tested (number (tables kinds starts list pins nets) rm)
+  whole = number_so c rm kinds starts list pins nets l₀
+      ∙ ap (λ (l : BuildLengths). or_else (sizes_number c rm (sizes_of kinds starts list pins nets l)) (number (tables kinds starts list pins nets) rm)) (sym same_long)
 
-  refused_with : (x : ℕ) → (x ≡ 0 → ⊥) → build_number c rm (tables kinds starts list pins nets) (lengths_of t₀ k) ≡ x
-      → Answered c rm (tables kinds starts list pins nets) (lengths_of t₀ k) w (lent ws os fs rs ls ss es) (Refused x)
-  refused_with zero z e = absurd (z refl)
-  refused_with (suc x) z e = record {
-    answer = sym (ap (λ (y : ℕ). build_answer y (tables kinds starts list pins nets)) e);
-    tables = clear ∙ sym (ap (λ (y : ℕ). build_tables y (tables kinds starts list pins nets) (lengths_of t₀ k)) e);
-    work = zeroed;
-  }
+  pub entry_early : (e : Refusal) → Err e ≡ done_of tested → Answered c rm (tables kinds starts list pins nets) (lengths_of t₀ k) w (lent ws os fs rs ls ss es) (Err e)
+  entry_early e q =
+      let r : Err e ≡ done_of (build_number c rm (tables kinds starts list pins nets) (lengths_of t₀ k))
+      = or_refused tested (number (tables kinds starts list pins nets) rm) tt e q ∙ ap done_of (sym whole) in record {
+        answer = refused_too (build_number c rm (tables kinds starts list pins nets) (lengths_of t₀ k)) (tally (graph_of (tables kinds starts list pins nets))) e r;
+        tables = clear ∙ blank-held (build_number c rm (tables kinds starts list pins nets) (lengths_of t₀ k)) (tables kinds starts list pins nets) (lengths_of t₀ k) e r;
+        work = zeroed;
+      }
 
-  pub entry_early : (r ≡ 0 → ⊥) → Answered c rm (tables kinds starts list pins nets) (lengths_of t₀ k) w (lent ws os fs rs ls ss es) (Refused r)
-  entry_early z = refused_with r z (whole ∙ first_refused r (number (tables kinds starts list pins nets) rm) r refl z)
+  module _ (v : Unit {0}) (q : Ok v ≡ done_of tested) where
+    z : tested ≡ 0
+    z = number_zero tested v tt q
 
-  module _ (z : r ≡ 0) where
     pass : sizes_number c rm (sizes_of kinds starts list pins nets (lengths_of t₀ k)) ≡ 0
-    pass = sym tested ∙ z
+    pass = ap (λ (l : BuildLengths). sizes_number c rm (sizes_of kinds starts list pins nets l)) (sym same_long) ∙ z
 
     work_long_lem : length w ≡ k
     work_long_lem = ap length zeroed ∙ zeros-length k
@@ -214,11 +217,11 @@ module _ (c : NetlistCounts) (rm : Rooms) (kinds starts list pins nets : List �
         (omega (arith, cells_so c rm kinds starts list pins nets l₀ pass, (counts c rm kinds starts list pins nets l₀ pass).0))
         (omega (arith, enough c rm kinds starts list pins nets l₀ pass, work_long_lem))
 
-    pub entry_late : (w₂ w₃ : List ℕ) (t₂ : BuildTables) (a : Built) → BuiltAs (tables kinds starts list pins nets) rm w w₂ t₂ a → w₃ ≡ zeros (length w₂)
+    pub entry_late : (w₂ w₃ : List ℕ) (t₂ : BuildTables) (a : Result Tally Refusal) → BuiltAs (tables kinds starts list pins nets) rm w w₂ t₂ a → w₃ ≡ zeros (length w₂)
         → Answered c rm (tables kinds starts list pins nets) (lengths_of t₀ k) w₃ t₂ a
     entry_late w₂ w₃ t₂ a b e =
         let same : build_number c rm (tables kinds starts list pins nets) (lengths_of t₀ k) ≡ number (tables kinds starts list pins nets) rm
-        = whole ∙ next-refused r (number (tables kinds starts list pins nets) rm) z in
+        = whole ∙ next-refused tested (number (tables kinds starts list pins nets) rm) z in
         record {
           answer = b.answer ∙ sym (ap (λ (y : ℕ). build_answer y (tables kinds starts list pins nets)) same);
           tables = b.tables ∙ (λ i. build_tables (sym same i) (tables kinds starts list pins nets) (sym asked_too i));

@@ -6,12 +6,13 @@ use Prim.Native.Nat.{ℕ, ◌+◌, ◌-◌, ◌*◌, ◌≤◌, ◌<◌}
 use native.Mathlib.Omega.{arith}
 use lib.ListN.{length, get_or, length-append}
 use lib.Seq.{ext_get_or}
+use Rattle.std.specs.Prelude.{Option, Some, None}
 use Rattle.laws.specs.Lists.{flat}
 use Rattle.laws.specs.Words.{zeros, filled, part}
-use Rattle.laws.proofs.Tests.{by_test, true≢false}
 use Rattle.laws.proofs.Ranges.{map-upto, length-map-upto}
 use Rattle.laws.proofs.Words.{zeros-length, part_length, part_at, filled-length, filled_at}
 use Rattle.rules.specs.declared.Rooms.{Rooms}
+use Rattle.rules.specs.declared.Tally.{Tally}
 use Rattle.rules.specs.Netlist.{Netlist, size}
 use Rattle.rules.specs.Tables.{driver_words, record_words, ram_words}
 use Rattle.rules.specs.Build.{step2, step3, graph_of, literals_of, fanouts, fanout_starts, tally}
@@ -23,7 +24,6 @@ use Rattle.walk.specs.State.{Operands}
 use Rattle.builds.proofs.Rows.{dff_count, ram_count}
 use Rattle.builds.proofs.Words.{record_words_lem, ram_words_lem}
 use Rattle.builds.proofs.Passes12.{built_sound, rows_shaped}
-use Rattle.drafts.specs.declared.Counted.{Counted}
 use Rattle.drafts.specs.Table.{Table, drafted}
 use Rattle.drafts.specs.Layout.{index_at}
 use Rattle.fanouts.specs.Fans.{Fanned}
@@ -31,6 +31,8 @@ use Rattle.fanouts.proofs.Passes.{unfanned_starts, unfanned_lists}
 use Rattle.results.proofs.Drivers.{holds_filled, holds_operands}
 use Rattle.results.proofs.Fans.{fans_fit, fans_starts, fans_lists, fans_no_room}
 use Rattle.results.proofs.Rooms as rooms
+use Rattle.rules.proofs.Tables.{clash}
+use Rattle.ends.specs.Ended.{all_records, all_rows}
 use Rattle.draws.specs.Drawing.{Empty, empty, Undrawn, undrawn, Drawn, drawn, no_room}
 use Rattle.aig.specs.Building.{lent, lengths_of, blank, asked, Unfinished, unfinished, Finished, finished, too_small}
 
@@ -64,6 +66,18 @@ all_literals n w l h = ext_get_or 0 (part w (7 * size n) (size n)) (literals_of 
 
     many : length (literals_of n) ≡ size n
     many = length-map-upto (step2 n).lits (size n)
+
+-- what drawing leaves that fits
+record Whole (n : Netlist) (rm : Rooms) (w ws w' ws' os' fs' rs' : List ℕ) (t : Tally) : Type 0 where
+  table : Table (index_at (size n) rm.pins) w' ws' t
+  drivers : drafted ws' t ≡ (step3 n).drivers
+  outputs : os' ≡ filled (step2 n).outs rm.outputs
+  dffs : fs' ≡ filled (all_records n) (3 * rm.dffs)
+  rams : rs' ≡ filled (all_rows n) (123 * rm.rams)
+  literals : (p : ℕ) → p < size n → get_or w' (7 * size n + p) 0 ≡ (step2 n).lits p
+  tallied : t ≡ tally (graph_of n)
+  long : length w' ≡ length w
+  table_kept : length ws' ≡ length ws
 
 module _ (n : Netlist) (rm : Rooms) (w ws os fs rs ls ss es : List ℕ) (u : Unfinished n rm w (lent ws os fs rs ls ss es)) where
   pub not_drawn : Undrawn n rm w ws os fs rs
@@ -120,111 +134,76 @@ module _ (n : Netlist) (rm : Rooms) (w ws os fs rs ls ss es : List ℕ) (u : Unf
       from : Empty n rm w ws os → (8 * size n + 8 * rm.pins + 1024 ≤ length w) × (rm.pins ≤ 16777215)
       from (empty f a c s z o l) = (l, s.graph_pins)
 
-  module _ (w₁ ws₁ os₁ fs₁ rs₁ : List ℕ) (step : Counted) (g : Drawn n rm w ws os fs rs w₁ ws₁ os₁ fs₁ rs₁ step) where
-    pub fill_full : step.fits ≡ false → Finished n rm w (lent ws os fs rs ls ss es) w₁ (lent ws₁ os₁ fs₁ rs₁ ls ss es) step
-    fill_full q = from g
-      where
-        from : Drawn n rm w ws os fs rs w₁ ws₁ os₁ fs₁ rs₁ step → Finished n rm w (lent ws os fs rs ls ss es) w₁ (lent ws₁ os₁ fs₁ rs₁ ls ss es) step
-        from (drawn y a b c d e f i j k) = true≢false step.fits y q
-        from (no_room y a b c d e f) = too_small y a (same_lengths ws os fs rs ls ss es ws₁ os₁ fs₁ rs₁ ls ss es c d e f refl refl refl) b
+  module _ (w₁ ws₁ os₁ fs₁ rs₁ : List ℕ) where
+    pub fill_full : Drawn n rm w ws os fs rs w₁ ws₁ os₁ fs₁ rs₁ None → Finished n rm w (lent ws os fs rs ls ss es) w₁ (lent ws₁ os₁ fs₁ rs₁ ls ss es) None
+    fill_full (drawn t y a b c d e f i j k) = let q : None ≡ Some t = y in clash (cc)
+    fill_full (no_room y a b c d e f) = too_small y a (same_lengths ws os fs rs ls ss es ws₁ os₁ fs₁ rs₁ ls ss es c d e f refl refl refl) b
 
-    module _ (q : step.fits ≡ true) where
-      table : Table (index_at (size n) rm.pins) w₁ ws₁ step.tally
-      table = from g
+    module _ (t : Tally) (g : Drawn n rm w ws os fs rs w₁ ws₁ os₁ fs₁ rs₁ (Some t)) where
+      all : Whole n rm w ws w₁ ws₁ os₁ fs₁ rs₁ t
+      all = from g
         where
-          from : Drawn n rm w ws os fs rs w₁ ws₁ os₁ fs₁ rs₁ step → Table (index_at (size n) rm.pins) w₁ ws₁ step.tally
-          from (drawn y a b c d e f i j k) = a
-          from (no_room y a b c d e f) = true≢false step.fits q y
+          from : Drawn n rm w ws os fs rs w₁ ws₁ os₁ fs₁ rs₁ (Some t) → Whole n rm w ws w₁ ws₁ os₁ fs₁ rs₁ t
+          from (drawn u y a b c d e f i j k) =
+              let q : u ≡ t = cc in
+              subst (Whole n rm w ws w₁ ws₁ os₁ fs₁ rs₁) q
+              (record { table = a; drivers = b; outputs = c; dffs = d; rams = e; literals = f; tallied = i; long = j; table_kept = k })
+          from (no_room y a b c d e f) = let q : Some t ≡ None = y in clash (cc)
 
-      drivers_are : drafted ws₁ step.tally ≡ (step3 n).drivers
-      drivers_are = from g
-        where
-          from : Drawn n rm w ws os fs rs w₁ ws₁ os₁ fs₁ rs₁ step → drafted ws₁ step.tally ≡ (step3 n).drivers
-          from (drawn y a b c d e f i j k) = b
-          from (no_room y a b c d e f) = true≢false step.fits q y
+      table : Table (index_at (size n) rm.pins) w₁ ws₁ t
+      table = all.table
+
+      drivers_are : drafted ws₁ t ≡ (step3 n).drivers
+      drivers_are = all.drivers
 
       work_long_lem : length w₁ ≡ length w
-      work_long_lem = from g
-        where
-          from : Drawn n rm w ws os fs rs w₁ ws₁ os₁ fs₁ rs₁ step → length w₁ ≡ length w
-          from (drawn y a b c d e f i j k) = j
-          from (no_room y a b c d e f) = b
+      work_long_lem = all.long
 
       table_long : length ws₁ ≡ length ws
-      table_long = from g
-        where
-          from : Drawn n rm w ws os fs rs w₁ ws₁ os₁ fs₁ rs₁ step → length ws₁ ≡ length ws
-          from (drawn y a b c d e f i j k) = k
-          from (no_room y a b c d e f) = c
+      table_long = all.table_kept
 
       held : Holds ws₁ (step3 n).drivers
       held = subst (Holds ws₁) drivers_are table.ready.held
 
-      many : length (step3 n).drivers ≡ step.tally.pins + 1
-      many = ap length (sym drivers_are) ∙ drivers_long_lem ws₁ step.tally.pins
+      many : length (step3 n).drivers ≡ t.pins + 1
+      many = ap length (sym drivers_are) ∙ drivers_long_lem ws₁ t.pins
 
-      pub finish_needs : (8 * length ls ≤ length w₁) × ((step.tally.pins ≤ 16777215) × ((3 * (step.tally.pins + 1) ≤ length ws₁) × (Operands ws₁ (step.tally.pins + 1)
-          × ((step.tally.pins + 2 ≤ length ss) × ((ss ≡ zeros (length ss)) × (es ≡ zeros (length es)))))))
-      finish_needs = (
-        omega (arith, ls_long, work_long_lem, roomy.0),
-        (
-          omega (arith, low, roomy.1),
-          (
-            omega (arith, table.ready.long),
-            (
-              holds_operands ws₁ (step3 n).drivers held step.tally.pins (built_sound n acc) many,
-              (omega (arith, low, ss_long), (ap (λ (t : BuildTables). t.starts) blank_so ∙ ap zeros (sym ss_long), ap (λ (t : BuildTables). t.fanouts) blank_so ∙ ap zeros (sym es_long))),
-            ),
-          ),
-        ),
-      )
-        where
-          low : step.tally.pins ≤ rm.pins
-          low = omega (arith, table.ready.long, table_long, ws_long)
+      pub finish_operands : Operands ws₁ (t.pins + 1)
+      finish_operands = holds_operands ws₁ (step3 n).drivers held t.pins (built_sound n acc) many
 
-      module _ (ls₁ ss₁ es₁ : List ℕ) (fits : Bool) (f : Fanned ws₁ step.tally.pins ss es ss₁ es₁ fits) (lp : ls₁ ≡ part w₁ (7 * length ls) (length ls))
+      module _ (ls₁ ss₁ es₁ : List ℕ) (fits : Bool) (f : Fanned ws₁ t.pins ss es ss₁ es₁ fits) (lp : ls₁ ≡ part w₁ (7 * length ls) (length ls))
           (lo : length os₁ ≡ length os) (lf : length fs₁ ≡ length fs) (lr : length rs₁ ≡ length rs) where
-        abbrev after : BuildTables
-        after = lent ws₁ os₁ fs₁ rs₁ ls₁ ss₁ es₁
-
-        abbrev answer : Counted
-        answer = record { fits = fits; tally = step.tally }
-
         literals_long : length ls₁ ≡ length ls
         literals_long = ap length lp ∙ part_length w₁ (7 * length ls) (length ls) (omega (arith, ls_long, work_long_lem, roomy.0))
 
-        fill_unlisted : fits ≡ false → Finished n rm w (lent ws os fs rs ls ss es) w₁ after answer
-        fill_unlisted x = too_small x (rooms.fanouts-over n rm (omega (arith, es_long, fans_no_room ws₁ (step3 n).drivers step.tally.pins held many ss es ss₁ es₁ fits f x)))
+        pub fill_unlisted : fits ≡ false → Finished n rm w (lent ws os fs rs ls ss es) w₁ (lent ws₁ os₁ fs₁ rs₁ ls₁ ss₁ es₁) None
+        fill_unlisted x = too_small refl (rooms.fanouts-over n rm (omega (arith, es_long, fans_no_room ws₁ (step3 n).drivers t.pins held many ss es ss₁ es₁ fits f x)))
             (same_lengths ws os fs rs ls ss es ws₁ os₁ fs₁ rs₁ ls₁ ss₁ es₁ table_long lo lf lr literals_long
-            (ap length (unfanned_starts ws₁ step.tally.pins ss es ss₁ es₁ fits f x) ∙ zeros-length (length ss))
-            (ap length (unfanned_lists ws₁ step.tally.pins ss es ss₁ es₁ fits f x) ∙ zeros-length (length es)))
+            (ap length (unfanned_starts ws₁ t.pins ss es ss₁ es₁ fits f x) ∙ zeros-length (length ss))
+            (ap length (unfanned_lists ws₁ t.pins ss es ss₁ es₁ fits f x) ∙ zeros-length (length es)))
             work_long_lem
 
-        fill_listed : fits ≡ true → Finished n rm w (lent ws os fs rs ls ss es) w₁ after answer
-        fill_listed x = from g
+        pub fill_listed : fits ≡ true → Finished n rm w (lent ws os fs rs ls ss es) w₁ (lent ws₁ os₁ fs₁ rs₁ ls₁ ss₁ es₁) (Some t)
+        fill_listed x = done
           where
             listed : ss₁ ≡ filled (fanout_starts (step3 n).drivers) (rm.pins + 2)
-            listed = fans_starts ws₁ (step3 n).drivers step.tally.pins held many ss es ss₁ es₁ fits f x ∙ ap (filled (fanout_starts (step3 n).drivers)) ss_long
+            listed = fans_starts ws₁ (step3 n).drivers t.pins held many ss es ss₁ es₁ fits f x ∙ ap (filled (fanout_starts (step3 n).drivers)) ss_long
 
             fanned : es₁ ≡ filled (fanouts (step3 n).drivers) rm.fanouts
-            fanned = fans_lists ws₁ (step3 n).drivers step.tally.pins held many ss es ss₁ es₁ fits f x ∙ ap (filled (fanouts (step3 n).drivers)) es_long
+            fanned = fans_lists ws₁ (step3 n).drivers t.pins held many ss es ss₁ es₁ fits f x ∙ ap (filled (fanouts (step3 n).drivers)) es_long
 
             rows : ws₁ ≡ filled (flat driver_words (step3 n).drivers) (3 * (rm.pins + 1))
             rows = holds_filled ws₁ (step3 n).drivers held ∙ ap (filled (flat driver_words (step3 n).drivers)) (table_long ∙ ws_long)
 
-            from : Drawn n rm w ws os fs rs w₁ ws₁ os₁ fs₁ rs₁ step → Finished n rm w (lent ws os fs rs ls ss es) w₁ after answer
-            from (no_room y a b c d e h) = true≢false step.fits q y
-            from (drawn y a b c d e h i j k) = finished x
+            done : Finished n rm w (lent ws os fs rs ls ss es) w₁ (lent ws₁ os₁ fs₁ rs₁ ls₁ ss₁ es₁) (Some t)
+            done = finished t refl
                 (rooms.rooms_fit n rm (omega (arith, many, table.ready.long, table_long, ws_long))
-                (fits_in (step2 n).outs rm.outputs (sym (ap length c) ∙ lo ∙ os_long))
-                (omega (arith, fits_in (flat record_words (graph_of n).dffs) (3 * rm.dffs) (sym (ap length d) ∙ lf ∙ fs_long), record_words_lem (graph_of n).dffs, dff_count n))
-                (omega (arith, fits_in (flat ram_words (graph_of n).rams) (123 * rm.rams) (sym (ap length e) ∙ lr ∙ rs_long), ram_words_lem (graph_of n).rams (rows_shaped n acc), ram_count n))
-                (omega (arith, es_long, fans_fit ws₁ (step3 n).drivers step.tally.pins held many ss es ss₁ es₁ fits f x)))
-                (λ z. lent (rows z) (c z) (d z) (e z) (lits h z) (listed z) (fanned z))
-                i work_long_lem
+                (fits_in (step2 n).outs rm.outputs (sym (ap length all.outputs) ∙ lo ∙ os_long))
+                (omega (arith, fits_in (flat record_words (graph_of n).dffs) (3 * rm.dffs) (sym (ap length all.dffs) ∙ lf ∙ fs_long), record_words_lem (graph_of n).dffs, dff_count n))
+                (omega (arith, fits_in (flat ram_words (graph_of n).rams) (123 * rm.rams) (sym (ap length all.rams) ∙ lr ∙ rs_long), ram_words_lem (graph_of n).rams (rows_shaped n acc), ram_count n))
+                (omega (arith, es_long, fans_fit ws₁ (step3 n).drivers t.pins held many ss es ss₁ es₁ fits f x)))
+                (λ z. lent (rows z) (all.outputs z) (all.dffs z) (all.rams z) (lits z) (listed z) (fanned z))
+                all.tallied work_long_lem
               where
-                lits : ((p : ℕ) → p < size n → get_or w₁ (7 * size n + p) 0 ≡ (step2 n).lits p) → ls₁ ≡ filled (literals_of n) (size n)
-                lits h = lp ∙ ap (λ (m : ℕ). part w₁ (7 * m) m) ls_long ∙ all_literals n w₁ (omega (arith, work_long_lem, roomy.0)) h
-
-        pub fill_done : Finished n rm w (lent ws os fs rs ls ss es) w₁ (lent ws₁ os₁ fs₁ rs₁ ls₁ ss₁ es₁) (record { fits = fits; tally = step.tally })
-        fill_done = by_test fits fill_listed fill_unlisted
+                lits : ls₁ ≡ filled (literals_of n) (size n)
+                lits = lp ∙ ap (λ (m : ℕ). part w₁ (7 * m) m) ls_long ∙ all_literals n w₁ (omega (arith, work_long_lem, roomy.0)) all.literals

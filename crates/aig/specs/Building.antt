@@ -1,17 +1,17 @@
 -- What building's calls leave of their tables.
-use Rattle.std.specs.Prelude.{◌≡◌, true, false, List, ℕ, ◌+◌, ◌*◌, ◌≤◌, length}
+use Rattle.std.specs.Prelude.{◌≡◌, true, false, Option, Some, None, Result, List, ℕ, ◌+◌, ◌*◌, ◌≤◌, length}
 use Rattle.laws.specs.Tests.{or_else, refuse}
 use Rattle.laws.specs.Words.{zeros}
 use Rattle.rules.specs.declared.NetlistCounts.{NetlistCounts}
 use Rattle.rules.specs.declared.Rooms.{Rooms}
-use Rattle.rules.specs.declared.Built.{Built}
+use Rattle.rules.specs.declared.Refusal.{Refusal}
+use Rattle.rules.specs.declared.Tally.{Tally}
 use Rattle.rules.specs.Netlist.{Netlist, size}
 use Rattle.rules.specs.Build.{graph_of, tally}
 use Rattle.rules.specs.Refusals.{netlist_number, room_fits}
 use Rattle.rules.specs.Answers.{BuildLengths, BuildTables, build_number, build_tables, build_answer}
 use Rattle.roles.specs.Reading.{tables}
 use Rattle.checks.specs.Ready.{Asked}
-use Rattle.drafts.specs.declared.Counted.{Counted}
 use Rattle.visits.specs.Drafting.{Sized}
 use Rattle.draws.specs.Drawing.{Undrawn}
 
@@ -52,10 +52,10 @@ pub data Unfinished (n : Netlist) (rm : Rooms) (w : List ℕ) (t : BuildTables) 
   unfinished : t ≡ blank (asked (size n) rm (length w)) → Undrawn n rm w t.drivers t.outputs t.dffs t.rams → Unfinished n rm w t
 
 -- every table as the rules say; or one has less room than the graph needs
-pub data Finished (n : Netlist) (rm : Rooms) (w : List ℕ) (t : BuildTables) (w' : List ℕ) (t' : BuildTables) (r : Counted) : Type 0 where
-  finished : r.fits ≡ true → room_fits (tally (graph_of n)) rm ≡ true → t' ≡ build_tables 0 n (asked (size n) rm (length w)) → r.tally ≡ tally (graph_of n) → length w' ≡ length w
+pub data Finished (n : Netlist) (rm : Rooms) (w : List ℕ) (t : BuildTables) (w' : List ℕ) (t' : BuildTables) (r : Option Tally) : Type 0 where
+  finished : (u : Tally) → r ≡ Some u → room_fits (tally (graph_of n)) rm ≡ true → t' ≡ build_tables 0 n (asked (size n) rm (length w)) → u ≡ tally (graph_of n) → length w' ≡ length w
       → Finished n rm w t w' t' r
-  too_small : r.fits ≡ false → room_fits (tally (graph_of n)) rm ≡ false → lengths_of t' 0 ≡ lengths_of t 0 → length w' ≡ length w → Finished n rm w t w' t' r
+  too_small : r ≡ None → room_fits (tally (graph_of n)) rm ≡ false → lengths_of t' 0 ≡ lengths_of t 0 → length w' ≡ length w → Finished n rm w t w' t' r
 
 -- ---- tables that 1 and 2 let pass
 pub data Waiting (kinds starts list pins : List ℕ) (rm : Rooms) (w : List ℕ) (t : BuildTables) : Type 0 where
@@ -66,13 +66,13 @@ abbrev pub number : Netlist → Rooms → ℕ
 number n rm = or_else (netlist_number n) (refuse 11 (room_fits (tally (graph_of n)) rm))
 
 -- 3 to 11, and the graph
-pub record BuiltAs (n : Netlist) (rm : Rooms) (w w' : List ℕ) (t' : BuildTables) (r : Built) : Type 0 where
+pub record BuiltAs (n : Netlist) (rm : Rooms) (w w' : List ℕ) (t' : BuildTables) (r : Result Tally Refusal) : Type 0 where
   pub answer : r ≡ build_answer (number n rm) n
   pub tables : t' ≡ build_tables (number n rm) n (asked (size n) rm (length w))
   pub long : length w' ≡ length w
 
 -- ---- the call: the answer and every lent table by the rules, whatever was lent; all work words 0
-pub record Answered (c : NetlistCounts) (rm : Rooms) (n : Netlist) (l : BuildLengths) (w' : List ℕ) (t' : BuildTables) (r : Built) : Type 0 where
+pub record Answered (c : NetlistCounts) (rm : Rooms) (n : Netlist) (l : BuildLengths) (w' : List ℕ) (t' : BuildTables) (r : Result Tally Refusal) : Type 0 where
   pub answer : r ≡ build_answer (build_number c rm n l) n
   pub tables : t' ≡ build_tables (build_number c rm n l) n l
   pub work : w' ≡ zeros l.work

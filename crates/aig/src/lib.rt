@@ -2,15 +2,14 @@
 #![tactic(auto)]
 
 ghost use Rattle.std.specs.Prelude.{◌≡◌, length};
-ghost use Rattle.roles.specs.Reading.{tables};
+ghost use Rattle.rules.specs.Tables.{netlist_in};
 ghost use Rattle.aig.specs.Building.{lent, lengths_of, blank, Unfinished, Finished, Waiting, BuiltAs, Answered};
 
-use drafts::Counted;
 use draws::make_graph;
 use finishes::finish;
 use prepares::prepare;
-use rules::{Built, NetlistCounts, Rooms};
-use sizes::{Sizes, sizes_number};
+use rules::{NetlistCounts, NetlistTables, Refusal, Rooms, Tally};
+use sizes::{Sizes, test_sizes};
 use words::zero;
 
 // All result tables 0.
@@ -34,13 +33,9 @@ fn clear(
     zero(fanouts);
 }
 
-// The graph of an accepted netlist: whether it fits, and its tallies.
+// The graph of an accepted netlist: its tallies where all of it fits.
 fn fill_tables(
-    kinds: &[u32],
-    starts: &[u32],
-    list: &[u32],
-    pins: &[u32],
-    nets: &[u32],
+    n: NetlistTables,
     drivers: &mut [u32],
     outputs: &mut [u32],
     dffs: &mut [u32],
@@ -50,32 +45,19 @@ fn fill_tables(
     fanouts: &mut [u32],
     work: &mut [u32],
     rooms: Rooms,
-) -> Counted
-    requires { Unfinished (tables kinds.now starts.now list.now pins.now nets.now) rooms work.old (lent drivers.old outputs.old dffs.old rams.old literals.old fanout_starts.old fanouts.old) }
-    ensures { Finished (tables kinds.now starts.now list.now pins.now nets.now) rooms work.old (lent drivers.old outputs.old dffs.old rams.old literals.old fanout_starts.old fanouts.old) work.new (lent drivers.new outputs.new dffs.new rams.new literals.new fanout_starts.new fanouts.new) result }
+) -> Option<Tally>
+    requires { Unfinished (netlist_in n) rooms work.old (lent drivers.old outputs.old dffs.old rams.old literals.old fanout_starts.old fanouts.old) }
+    ensures { Finished (netlist_in n.entry) rooms work.old (lent drivers.old outputs.old dffs.old rams.old literals.old fanout_starts.old fanouts.old) work.new (lent drivers.new outputs.new dffs.new rams.new literals.new fanout_starts.new fanouts.new) result }
 {
-    let step = make_graph(
-        kinds, starts, list, pins, nets, drivers, outputs, dffs, rams, work, rooms,
-    );
-    if !step.fits {
-        return step;
-    }
-    let tally = step.tally;
+    let tally = make_graph(n, drivers, outputs, dffs, rams, work, rooms)?;
     let last = tally.pins;
     let fits = finish(drivers, work, literals, fanout_starts, fanouts, last);
-    Counted {
-        fits: fits,
-        tally: tally,
-    }
+    if fits { Some(tally) } else { None }
 }
 
 // 3 to 11 of tables that 1 and 2 let pass, and the graph.
 fn build_asked(
-    kinds: &[u32],
-    starts: &[u32],
-    list: &[u32],
-    pins: &[u32],
-    nets: &[u32],
+    n: NetlistTables,
     drivers: &mut [u32],
     outputs: &mut [u32],
     dffs: &mut [u32],
@@ -85,20 +67,13 @@ fn build_asked(
     fanouts: &mut [u32],
     work: &mut [u32],
     rooms: Rooms,
-) -> Built
-    requires { Waiting kinds.now starts.now list.now pins.now rooms work.old (lent drivers.old outputs.old dffs.old rams.old literals.old fanout_starts.old fanouts.old) }
-    ensures { BuiltAs (tables kinds.now starts.now list.now pins.now nets.now) rooms work.old work.new (lent drivers.new outputs.new dffs.new rams.new literals.new fanout_starts.new fanouts.new) result }
+) -> Result<Tally, Refusal>
+    requires { Waiting n.kinds.now n.starts.now n.list.now n.pins.now rooms work.old (lent drivers.old outputs.old dffs.old rams.old literals.old fanout_starts.old fanouts.old) }
+    ensures { BuiltAs (netlist_in n.entry) rooms work.old work.new (lent drivers.new outputs.new dffs.new rams.new literals.new fanout_starts.new fanouts.new) result }
 {
-    let number = prepare(kinds, starts, list, pins, nets, work);
-    if number != 0 {
-        return Built::Refused(number);
-    }
-    let step = fill_tables(
-        kinds,
-        starts,
-        list,
-        pins,
-        nets,
+    prepare(n, work)?;
+    let made = fill_tables(
+        n,
         drivers,
         outputs,
         dffs,
@@ -109,31 +84,28 @@ fn build_asked(
         work,
         rooms,
     );
-    let tally = step.tally;
-    if step.fits {
-        return Built::Made(tally);
+    match made {
+        Some(tally) => Ok(tally),
+        None => {
+            clear(
+                drivers,
+                outputs,
+                dffs,
+                rams,
+                literals,
+                fanout_starts,
+                fanouts,
+            );
+            Err(Refusal::Room)
+        }
     }
-    clear(
-        drivers,
-        outputs,
-        dffs,
-        rams,
-        literals,
-        fanout_starts,
-        fanouts,
-    );
-    Built::Refused(11)
 }
 
-// The graph of a netlist, its literals, records and fanouts, with the tallies; or the number of the refusal.
+// The graph of a netlist, its literals, records and fanouts, with the tallies; or the refusal.
 pub fn from_netlistdb(
     c: NetlistCounts,
     rooms: Rooms,
-    kinds: &[u32],
-    starts: &[u32],
-    list: &[u32],
-    pins: &[u32],
-    nets: &[u32],
+    n: NetlistTables,
     drivers: &mut [u32],
     outputs: &mut [u32],
     dffs: &mut [u32],
@@ -142,8 +114,8 @@ pub fn from_netlistdb(
     fanout_starts: &mut [u32],
     fanouts: &mut [u32],
     work: &mut [u32],
-) -> Built
-    ensures { Answered c rooms (tables kinds.now starts.now list.now pins.now nets.now) (lengths_of (lent drivers.old outputs.old dffs.old rams.old literals.old fanout_starts.old fanouts.old) (length work.old)) work.new (lent drivers.new outputs.new dffs.new rams.new literals.new fanout_starts.new fanouts.new) result }
+) -> Result<Tally, Refusal>
+    ensures { Answered c rooms (netlist_in n.entry) (lengths_of (lent drivers.old outputs.old dffs.old rams.old literals.old fanout_starts.old fanouts.old) (length work.old)) work.new (lent drivers.new outputs.new dffs.new rams.new literals.new fanout_starts.new fanouts.new) result }
 {
     clear(
         drivers,
@@ -156,11 +128,11 @@ pub fn from_netlistdb(
     );
     zero(work);
     let s = Sizes {
-        kinds: kinds.len(),
-        starts: starts.len(),
-        list: list.len(),
-        pins: pins.len(),
-        nets: nets.len(),
+        kinds: n.kinds.len(),
+        starts: n.starts.len(),
+        list: n.list.len(),
+        pins: n.pins.len(),
+        nets: n.nets.len(),
         drivers: drivers.len(),
         outputs: outputs.len(),
         dffs: dffs.len(),
@@ -170,16 +142,9 @@ pub fn from_netlistdb(
         fanouts: fanouts.len(),
         work: work.len(),
     };
-    let number = sizes_number(c, rooms, s);
-    if number != 0 {
-        return Built::Refused(number);
-    }
+    test_sizes(c, rooms, s)?;
     let answer = build_asked(
-        kinds,
-        starts,
-        list,
-        pins,
-        nets,
+        n,
         drivers,
         outputs,
         dffs,
