@@ -3,7 +3,9 @@ use Rattle.std.specs.Prelude.{◌≡◌, Option, Some, None, List, [], ◌∷◌
 use Rattle.rules.specs.declared.Driver.TheVariants.{Dff, Ram}
 use Rattle.rules.specs.declared.Tally.{Tally}
 use Rattle.tallies.specs.Counted.{output_counted}
-use Rattle.drafts.specs.Table.{Table, drafted, SameEnds}
+use Rattle.drafts.specs.declared.Draft.{Draft}
+use Rattle.drafts.specs.Table.{Table, drafted, SameEnds, SameLoans}
+use Rattle.drafts.specs.Table as draft
 use Rattle.numbers.specs.Numbering.{counted, numbered, flops_counted, rams_counted}
 
 -- a flip-flop of a cell whose list begins at `place`: its own pin, and its number
@@ -34,3 +36,17 @@ pub data OutputMade (m p l : ℕ) (w os : List ℕ) (t : Tally) (w' os' : List �
       → w' ≡ set (set w (7 * m + p) l) (8 * m + l) 1 → os' ≡ set os t.outputs l → OutputMade m p l w os t w' os' r
   no_output : get_or (set w (7 * m + p) l) (8 * m + l) 0 ≡ 0 → length os ≤ t.outputs → r ≡ None → w' ≡ set w (7 * m + p) l → os' ≡ os
       → OutputMade m p l w os t w' os' r
+
+-- ---- the same of a draft
+pub record AddsFlop (m room cell place : ℕ) (d d' : Draft) (r : Option (Unit {0})) : Type 0 where
+  pub loans : SameLoans d d'
+  pub made : FlopMade m d.at room cell place d.work.now d.drivers.now d.tally d'.work.now d'.drivers.now (draft.counted r d'.tally)
+
+pub record AddsRam (m room cell place p : ℕ) (d d' : Draft) (r : Option (Unit {0})) : Type 0 where
+  pub loans : SameLoans d d'
+  pub made : RamMade m d.at room cell place p d.work.now d.drivers.now d.tally d'.work.now d'.drivers.now (draft.counted r d'.tally)
+
+pub record AddsOutput (m p l : ℕ) (d : Draft) (os : List ℕ) (d' : Draft) (os' : List ℕ) (r : Option (Unit {0})) : Type 0 where
+  pub loans : SameLoans d d'
+  pub drivers : d'.drivers.now ≡ d.drivers.now
+  pub made : OutputMade m p l d.work.now os d.tally d'.work.now os' (draft.counted r d'.tally)

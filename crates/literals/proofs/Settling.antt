@@ -18,10 +18,9 @@ use Rattle.rules.proofs.Tables.{clash, of_name}
 use Rattle.roles.specs.Reading.{tables, Fits, entry_of, either_in, cell_pins}
 use Rattle.roles.proofs.Roles.{either_same}
 use Rattle.drafts.specs.declared.Draft.{Draft}
-use Rattle.drafts.specs.Table.{Added, Table, drafted, drivers_of, set_reset, Extends, Adds}
+use Rattle.drafts.specs.Table.{Added, Table, drivers_of, set_reset, Extends, Adds}
 use Rattle.drafts.proofs.Steps.{table_store, extended}
-use Rattle.literals.specs.Settled.{word_at, turned_made, Left, left, full, Leaves}
-use Rattle.drafts.specs.Table as table
+use Rattle.literals.specs.Settled.{word_at, turned_made, Left, left, Leaves}
 
 -- ---- a step that fits, and its literal written
 pub left_turned : (at m p : ℕ) (z : Bool) (k : Made) (w ws : List ℕ) (t : Tally) (w₁ ws₁ : List ℕ) (step : Added) (o : Literal) (w₂ : List ℕ) → 7 * m + p < at
@@ -42,28 +41,17 @@ left_turned at m p z k w ws t w₁ ws₁ step o w₂ l s f h =
     x.long
 
 -- the same of drafts
-module _ (m p : ℕ) (k : Made) (d d₁ : Draft) where
-  pub turned_none : (z : Bool) → Adds k d d₁ None → Leaves m p (turned_made z k) d d₁ None
-  turned_none z a = record { loans = a.loans; left = turned_full None refl a.extends }
-    where
-      turned_full : (r : Option Added) → r ≡ None → Extends d.at k d.work.now d.drivers.now d.tally d₁.work.now d₁.drivers.now r
-          → Left d.at m p (turned_made z k) d.work.now d.drivers.now d.tally d₁.work.now d₁.drivers.now None
-      turned_full r e (table.made a' b c f g h i j) = let z : None ≡ Some a' = sym e ∙ b in clash (cc)
-      turned_full r e (table.full a' b c f) = full refl b c f
+module _ (m p : ℕ) (k : Made) (d d₁ : Draft) (lit : Literal) (a : Adds k d d₁ (Some lit)) (l : 7 * m + p < d.at) (work : MutBor (List ℕ))
+    (g : work.ghost_name ≡ d₁.work.ghost_name) where
+  pub leaves_turned : (z : Bool) (o : Literal) → o.word ≡ opposite_if z lit.word → work.now ≡ set d₁.work.now (7 * m + p) o.word
+      → Leaves m p (turned_made z k) d (record d₁ { work = work }) (Some tt)
+  leaves_turned z o f h = record {
+    loans = record { drivers = a.loans.drivers; work = g ∙ a.loans.work; place = a.loans.place };
+    left = left_turned d.at m p z k d.work.now d.drivers.now d.tally d₁.work.now d₁.drivers.now (record { lit = lit; tally = d₁.tally }) o work.now l a.extends f h;
+  }
 
-  pub leaves_none : Adds k d d₁ None → Leaves m p k d d₁ None
-  leaves_none = turned_none false
-
-  module _ (lit : Literal) (a : Adds k d d₁ (Some lit)) (l : 7 * m + p < d.at) (work : MutBor (List ℕ)) (g : work.ghost_name ≡ d₁.work.ghost_name) where
-    pub leaves_turned : (z : Bool) (o : Literal) → o.word ≡ opposite_if z lit.word → work.now ≡ set d₁.work.now (7 * m + p) o.word
-        → Leaves m p (turned_made z k) d (record d₁ { work = work }) (Some tt)
-    leaves_turned z o f h = record {
-      loans = record { drivers = a.loans.drivers; work = g ∙ a.loans.work; place = a.loans.place };
-      left = left_turned d.at m p z k d.work.now d.drivers.now d.tally d₁.work.now d₁.drivers.now (record { lit = lit; tally = d₁.tally }) o work.now l a.extends f h;
-    }
-
-    pub leaves_plain : work.now ≡ set d₁.work.now (7 * m + p) lit.word → Leaves m p k d (record d₁ { work = work }) (Some tt)
-    leaves_plain h = leaves_turned false lit refl h
+  pub leaves_plain : work.now ≡ set d₁.work.now (7 * m + p) lit.word → Leaves m p k d (record d₁ { work = work }) (Some tt)
+  leaves_plain h = leaves_turned false lit refl h
 
 -- ---- the output of an AND2
 pub leaves_and : (m p : ℕ) (x y z : Bool) (a b : ℕ) (d d₁ : Draft) (r : Option (Unit {0})) (one two : Literal)

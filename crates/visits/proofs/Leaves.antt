@@ -139,11 +139,12 @@ module _ (kinds starts list pins nets : List ℕ) (rm : Rooms) (w ws os : List �
     pub output_in : (lit : Literal) → lit.word ≡ get_or w (7 * length list + q) 0 → 8 * length list + lit.word < length w
     output_in lit el = omega (arith, lit_is lit el, port_has, wide, drivers_long_lem ws t.pins, ap length d.drivers, d.table.ready.long, d.long)
 
-    pub leave_output : (lit : Literal) → lit.word ≡ get_or w (7 * length list + q) 0 → (w' os' : List ℕ) (r : Option Tally)
-        → OutputMade (length list) p lit.word w os t w' os' r → Goal w' ws os' r
-    leave_output lit el w' os' r o = subst (λ (b : Build). Moved n rm b w ws os w' ws os' r) (sym (then_is ∙ ap (leaving n s p) is_port))
+    pub leave_output : (lit : Literal) → lit.word ≡ get_or w (7 * length list + q) 0 → (w' ws' os' : List ℕ) (r : Option Tally) → ws' ≡ ws
+        → OutputMade (length list) p lit.word w os t w' os' r → Goal w' ws' os' r
+    leave_output lit el w' ws' os' r same o = subst (λ (x : List ℕ). Goal w' x os' r) (sym same)
+        (subst (λ (b : Build). Moved n rm b w ws os w' ws os' r) (sym (then_is ∙ ap (leaving n s p) is_port))
         (output_moves n fit.accepted rm w ws t s d p q lp port_has os ls w' os' r
-        (subst (λ (v : ℕ). OutputMade (length list) p v w os t w' os' r) (lit_is lit el) o))
+        (subst (λ (v : ℕ). OutputMade (length list) p v w os t w' os' r) (lit_is lit el) o)))
 
   pub leave_input : made ≡ Input → (w' ws' : List ℕ) (r : Option Tally) → Left at (length list) p (pushed (drafted ws t) (Port p)) w ws t w' ws' r → Goal w' ws' os r
   leave_input e w' ws' r f = with_lit_lem at (pushed (drafted ws t) (Port p)) (s.drivers ++ (Port p ∷ [])) (2 * length s.drivers) w' ws' r ea

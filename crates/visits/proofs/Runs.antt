@@ -21,7 +21,10 @@ use Rattle.orders.specs.State.{event_of}
 use Rattle.builds.proofs.Sizes.{Longer, acts_longer}
 use Rattle.builds.proofs.Steps.{visited, inside}
 use Rattle.std.specs.Prelude.{Some, None}
-use Rattle.visits.specs.Drafting.{Drafting, Listed, Over, pins_over, outputs_over, dffs_over, rams_over, Moved, moved, stuck, Before, ready, Visiting, visiting, event_at, state_at}
+use Rattle.drafts.specs.declared.Draft.{Draft}
+use Rattle.drafts.specs.Table.{SameLoans}
+use Rattle.drafts.proofs.Drafting.{loans_refl, loans_trans}
+use Rattle.visits.specs.Drafting.{Drafting, Listed, Over, pins_over, outputs_over, dffs_over, rams_over, Moved, moved, stuck, Before, ready, Visiting, visiting, event_at, state_at, IsVisiting, Moves}
 
 -- ---- the pin of an event
 enter_at : (es : List Event) (i p : ℕ) → i < length es → get_or es i (enter 0) ≡ enter p → 0 < ins p es
@@ -76,20 +79,58 @@ over_later n rm i (outputs_over l) = outputs_over (omega (arith, l, (later n i).
 over_later n rm i (dffs_over l) = dffs_over (omega (arith, l, (later n i).dffs))
 over_later n rm i (rams_over l) = rams_over (omega (arith, l, (later n i).rams))
 
-module _ (n : Netlist) (rm : Rooms) (w ws os : List ℕ) (t : Tally) (at i : ℕ) where
-  pub visits_go_on : Visiting n rm w ws os t at i → (w' ws' os' : List ℕ) (u : Tally) → Moved n rm (state_at n (i + 1)) w ws os w' ws' os' (Some u)
-      → Visiting n rm w' ws' os' u at (i + 1)
-  visits_go_on (visiting f a c d ls ea) w' ws' os' u (moved v y d' ls' lw) =
-      let q : v ≡ u = cc in visiting f a c (subst (λ (x : Tally). Drafting n rm w' ws' x (state_at n (i + 1))) q d') ls' ea
-  visits_go_on (visiting f a c d ls ea) w' ws' os' u (stuck y o lw lws los) = let q : Some u ≡ None = y in clash (cc)
+-- what a step leaves that fits
+record Kept (n : Netlist) (rm : Rooms) (b : Build) (w w' ws' os' : List ℕ) (t : Tally) : Type 0 where
+  draft : Drafting n rm w' ws' t b
+  listed : Listed rm os' b
+  long : length w' ≡ length w
 
-  module _ (w₀ ws₀ os₀ : List ℕ) (lw : length w ≡ length w₀) (lws : length ws ≡ length ws₀) (los : length os ≡ length os₀) where
-    pub visits_stop : (w' ws' os' : List ℕ) → Moved n rm (state_at n (i + 1)) w ws os w' ws' os' None → Moved n rm (step2 n) w₀ ws₀ os₀ w' ws' os' None
-    visits_stop w' ws' os' (moved v y d ls k) = let q : None ≡ Some v = y in clash (cc)
-    visits_stop w' ws' os' (stuck y o a b c) = stuck y (over_later n rm (i + 1) o) (a ∙ lw) (b ∙ lws) (c ∙ los)
+kept : (n : Netlist) (rm : Rooms) (b : Build) (w ws os w' ws' os' : List ℕ) (t : Tally) → Moved n rm b w ws os w' ws' os' (Some t) → Kept n rm b w w' ws' os' t
+kept n rm b w ws os w' ws' os' t (moved v y d l k) =
+    let q : v ≡ t = cc in subst (Kept n rm b w w' ws' os') q (record { draft = d; listed = l; long = k })
+kept n rm b w ws os w' ws' os' t (stuck y o a c e) = let q : Some t ≡ None = y in clash (cc)
 
-    pub visits_end : Visiting n rm w ws os t at i → 2 * size n ≤ i → Moved n rm (step2 n) w₀ ws₀ os₀ w ws os (Some t)
+-- all before event i is there, in the tables that were lent
+pub record VisitingSince (n : Netlist) (rm : Rooms) (d₀ d : Draft) (os : List ℕ) (i : ℕ) : Type 0 where
+  pub loans : SameLoans d₀ d
+  pub visiting : IsVisiting n rm d os i
+  pub words : length d.work.now ≡ length d₀.work.now
+  pub drivers : length d.drivers.now ≡ length d₀.drivers.now
+
+pub visits_begin : (n : Netlist) (rm : Rooms) (d : Draft) (os : List ℕ) (i : ℕ) → IsVisiting n rm d os i → VisitingSince n rm d d os i
+visits_begin n rm d os i v = record { loans = loans_refl d; visiting = v; words = refl; drivers = refl }
+
+module _ (n : Netlist) (rm : Rooms) (d₀ d : Draft) (os : List ℕ) (i : ℕ) (v : VisitingSince n rm d₀ d os i) where
+  go_on : IsVisiting n rm d os i → (d' : Draft) (os' : List ℕ) → Moves n rm (state_at n (i + 1)) d os d' os' (Some tt)
+      → Visiting n rm d'.work.now d'.drivers.now os' d'.tally d.at (i + 1) × (length d'.work.now ≡ length d.work.now) × (length d'.drivers.now ≡ length d.drivers.now)
+  go_on (visiting f a c d₁ ls ea) d' os' m =
+      let k = kept n rm (state_at n (i + 1)) d.work.now d.drivers.now os d'.work.now d'.drivers.now os' d'.tally m.moved in
+      (visiting f a c k.draft k.listed ea, k.long, k.draft.long ∙ sym d₁.long)
+
+  pub visits_go_on : (d' : Draft) (os' : List ℕ) → Moves n rm (state_at n (i + 1)) d os d' os' (Some tt) → VisitingSince n rm d₀ d' os' (i + 1)
+  visits_go_on d' os' m =
+      let k = go_on v.visiting d' os' m in
+      record {
+        loans = loans_trans v.loans m.loans;
+        visiting = subst (λ (x : ℕ). Visiting n rm d'.work.now d'.drivers.now os' d'.tally x (i + 1)) (sym m.loans.place) k.0;
+        words = k.1 ∙ v.words;
+        drivers = k.2 ∙ v.drivers;
+      }
+
+  module _ (os₀ : List ℕ) (los : length os ≡ length os₀) where
+    stop : (d' : Draft) (os' : List ℕ) → Moved n rm (state_at n (i + 1)) d.work.now d.drivers.now os d'.work.now d'.drivers.now os' None
+        → Moved n rm (step2 n) d₀.work.now d₀.drivers.now os₀ d'.work.now d'.drivers.now os' None
+    stop d' os' (moved t y e l k) = let q : None ≡ Some t = y in clash (cc)
+    stop d' os' (stuck y o a b c) = stuck y (over_later n rm (i + 1) o) (a ∙ v.words) (b ∙ v.drivers) (c ∙ los)
+
+    pub visits_stop : (d' : Draft) (os' : List ℕ) → Moves n rm (state_at n (i + 1)) d os d' os' None → Moves n rm (step2 n) d₀ os₀ d' os' None
+    visits_stop d' os' m = record { loans = loans_trans v.loans m.loans; moved = stop d' os' m.moved }
+
+    end : IsVisiting n rm d os i → 2 * size n ≤ i → Moved n rm (step2 n) d₀.work.now d₀.drivers.now os₀ d.work.now d.drivers.now os (Some d.tally)
     unfolding state_at step2
-    visits_end (visiting f a c d ls ea) l =
-        let e : state_at n i ≡ step2 n = ap (over (act n) (start2 (step1 n))) (take_all i (events n) (omega (arith, c, l))) in
-        moved t refl (subst (Drafting n rm w ws t) e d) (subst (Listed rm os) e ls) lw
+    end (visiting f a c e ls ea) l =
+        let s : state_at n i ≡ step2 n = ap (over (act n) (start2 (step1 n))) (take_all i (events n) (omega (arith, c, l))) in
+        moved d.tally refl (subst (Drafting n rm d.work.now d.drivers.now d.tally) s e) (subst (Listed rm os) s ls) v.words
+
+    pub visits_end : 2 * size n ≤ i → Moves n rm (step2 n) d₀ os₀ d os (Some tt)
+    visits_end l = record { loans = v.loans; moved = end v.visiting l }

@@ -12,7 +12,8 @@ use Rattle.rules.specs.Build.{Role, tied, wire, out_port, in_port, and_out, inv_
 use Rattle.rules.specs.Refusals.{Accepted}
 use Rattle.roles.specs.Reading.{Fits}
 use Rattle.orders.specs.State.{event_of}
-use Rattle.drafts.specs.Table.{Table, drafted}
+use Rattle.drafts.specs.declared.Draft.{Draft}
+use Rattle.drafts.specs.Table.{Table, drafted, counted, SameLoans}
 use Rattle.drafts.specs.Layout.{index_at, Flags, Written}
 use Rattle.visits.specs.declared.Leaving.{Leaving}
 use Rattle.visits.specs.declared.Leaving.TheVariants.{Take, Copy, Output, Input, And, Flop, Ram}
@@ -96,3 +97,14 @@ pub data Before (n : Netlist) (rm : Rooms) (w ws os : List ℕ) (t : Tally) (at 
 pub data Visiting (n : Netlist) (rm : Rooms) (w ws os : List ℕ) (t : Tally) (at i : ℕ) : Type 0 where
   visiting : Fits n → Accepted n → length (events n) ≡ 2 * size n → Drafting n rm w ws t (state_at n i) → Listed rm os (state_at n i) → at ≡ index_at (size n) rm.pins
       → Visiting n rm w ws os t at i
+
+-- ---- the same of a draft
+abbrev pub IsBefore : Netlist → Rooms → Draft → List ℕ → ℕ → ℕ → Event → Type 0
+IsBefore n rm d os i p e = Before n rm d.work.now d.drivers.now os d.tally d.at i p e
+
+abbrev pub IsVisiting : Netlist → Rooms → Draft → List ℕ → ℕ → Type 0
+IsVisiting n rm d os i = Visiting n rm d.work.now d.drivers.now os d.tally d.at i
+
+pub record Moves (n : Netlist) (rm : Rooms) (b : Build) (d : Draft) (os : List ℕ) (d' : Draft) (os' : List ℕ) (r : Option (Unit {0})) : Type 0 where
+  pub loans : SameLoans d d'
+  pub moved : Moved n rm b d.work.now d.drivers.now os d'.work.now d'.drivers.now os' (counted r d'.tally)

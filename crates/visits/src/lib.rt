@@ -9,14 +9,15 @@ ghost use Rattle.rules.specs.Netlist.{named};
 ghost use Rattle.rules.specs.Build.{role, step2};
 ghost use Rattle.rules.specs.Tables.{netlist_in};
 ghost use Rattle.roles.specs.Reading.{Fits, says};
-ghost use Rattle.drafts.specs.Table.{Table, drafted, set_reset};
-ghost use Rattle.literals.specs.Settled.{word_at, Left};
-ghost use Rattle.visits.specs.Drafting.{Stored, own_pin, state_at, Before, Visiting, Moved, leaving_of};
+ghost use Rattle.drafts.specs.Table.{drivers_of, set_reset, Open};
+ghost use Rattle.literals.specs.Settled.{word_at, Leaves};
+ghost use Rattle.visits.specs.Drafting.{Stored, own_pin, state_at, IsBefore, IsVisiting, Moves, leaving_of};
 
+use drafts::Draft;
 use entries::{add_output, make_flop, make_ram};
 use literals::{and_out, flop_out, literal_at, operand, port_out, put_literal};
 use roles::{PinRole, role};
-use rules::{Literal, NetlistTables, Rooms, Tally};
+use rules::{Literal, NetlistTables, Rooms};
 use words::word;
 
 // What a pin makes when it is left: it takes a word for its literal, or that of another pin or its opposite; or it is an
@@ -53,88 +54,74 @@ fn left_as(what: PinRole) -> Leaving
 // The pin p of event i is entered.
 fn enter_pin(
     n: NetlistTables,
-    drivers: &mut [u32],
-    work: &mut [u32],
+    draft: &mut Draft,
     outputs: &[u32],
-    at: usize,
     rooms: Rooms,
-    t: Tally,
     i: usize,
     p: u32,
-) -> Option<Tally>
-    requires { Before (netlist_in n) rooms work.old drivers.old outputs.now t at i p (enter p) }
-    ensures { Moved (netlist_in n.entry) rooms (state_at (netlist_in n.entry) (i + 1)) work.old drivers.old outputs.now work.new drivers.new outputs.now result }
+) -> Option<()>
+    requires { IsBefore (netlist_in n) rooms draft.old outputs.now i p (enter p) }
+    ensures { Moves (netlist_in n.entry) rooms (state_at (netlist_in n.entry) (i + 1)) draft.old outputs.now draft.new outputs.now result }
 {
     match role(n, p) {
         PinRole::DffOut(cell) => {
             let place = word(n.starts, cell as usize) as usize;
-            make_flop(drivers, work, n.list.len(), at, rooms.dffs, t, cell, place)
+            make_flop(draft, n.list.len(), rooms.dffs, cell, place)
         }
-        _ => Some(t),
+        _ => Some(()),
     }
 }
 
 // The output of a flip-flop whose own pin was made before.
-fn stored_out(
-    n: NetlistTables,
-    drivers: &mut [u32],
-    work: &mut [u32],
-    at: usize,
-    t: Tally,
-    p: u32,
-    cell: u32,
-) -> Option<Tally>
+fn stored_out(n: NetlistTables, draft: &mut Draft, p: u32, cell: u32) -> Option<()>
     requires fits { Fits (netlist_in n) }
     requires cell_in_bounds { cell < length n.kinds.now }
-    requires stored { Stored n.starts.now n.list.now work.old cell }
-    requires list_bound { 8 * length n.list.now ≤ at }
+    requires stored { Stored n.starts.now n.list.now draft.old.work.now cell }
+    requires list_bound { 8 * length n.list.now ≤ draft.old.at }
     requires p_in_bounds { p < length n.list.now }
-    requires table { Table at work.old drivers.old t }
-    ensures { Left at (length n.entry.list.now) p (set_reset (drafted drivers.old t) (2 * own_pin n.entry.starts.now n.entry.list.now work.old cell) (first_or 1 (word_at work.old (length n.entry.list.now)) (named (netlist_in n.entry) cell 6)) (first_or 1 (word_at work.old (length n.entry.list.now)) (named (netlist_in n.entry) cell 7))) work.old drivers.old t work.new drivers.new result }
+    requires open { Open draft.old }
+    ensures { Leaves (length n.entry.list.now) p (set_reset (drivers_of draft.old) (2 * own_pin n.entry.starts.now n.entry.list.now draft.old.work.now cell) (first_or 1 (word_at draft.old.work.now (length n.entry.list.now)) (named (netlist_in n.entry) cell 6)) (first_or 1 (word_at draft.old.work.now (length n.entry.list.now)) (named (netlist_in n.entry) cell 7))) draft.old draft.new result }
 {
     let place = word(n.starts, cell as usize) as usize;
-    let own = word(work, n.list.len() + place);
-    flop_out(n, drivers, work, at, t, p, cell, own)
+    let own = draft.work[n.list.len() + place];
+    flop_out(n, draft, p, cell, own)
 }
 
 // The pin p of event i is left, as what it is.
 fn leave_pin(
     n: NetlistTables,
-    drivers: &mut [u32],
-    work: &mut [u32],
+    draft: &mut Draft,
     outputs: &mut [u32],
-    at: usize,
     rooms: Rooms,
-    t: Tally,
     i: usize,
     p: u32,
-) -> Option<Tally>
-    requires { Before (netlist_in n) rooms work.old drivers.old outputs.old t at i p (leave p) }
-    ensures { Moved (netlist_in n.entry) rooms (state_at (netlist_in n.entry) (i + 1)) work.old drivers.old outputs.old work.new drivers.new outputs.new result }
+) -> Option<()>
+    requires { IsBefore (netlist_in n) rooms draft.old outputs.old i p (leave p) }
+    ensures { Moves (netlist_in n.entry) rooms (state_at (netlist_in n.entry) (i + 1)) draft.old outputs.old draft.new outputs.new result }
 {
     let what = role(n, p);
     let made = left_as(what);
     let m = n.list.len();
     match made {
         Leaving::Take(literal) => {
-            put_literal(work, m, p, Literal { word: literal });
-            Some(t)
+            put_literal(draft.work, m, p, Literal { word: literal });
+            Some(())
         }
         Leaving::Copy(q, x) => {
-            let lit = operand(work, m, q, x);
-            put_literal(work, m, p, lit);
-            Some(t)
+            let lit = operand(draft, m, q, x);
+            put_literal(draft.work, m, p, lit);
+            Some(())
         }
         Leaving::Output(q) => {
-            let lit = literal_at(work, m, q);
-            add_output(work, outputs, m, t, p, lit)
+            let lit = literal_at(draft, m, q);
+            add_output(draft, outputs, m, p, lit)
         }
-        Leaving::Input => port_out(drivers, work, m, at, t, p),
-        Leaving::And(x, y, z, a, b) => and_out(drivers, work, m, at, t, p, x, y, z, a, b),
-        Leaving::Flop(cell) => stored_out(n, drivers, work, at, t, p, cell),
+        Leaving::Input => port_out(draft, m, p),
+        Leaving::And(x, y, z, a, b) => and_out(draft, m, p, x, y, z, a, b),
+        Leaving::Flop(cell) => stored_out(n, draft, p, cell),
         Leaving::Ram(cell, _) => {
             let place = word(n.starts, cell as usize) as usize;
-            make_ram(drivers, work, m, at, rooms.rams, t, p, cell, place)
+            make_ram(draft, m, rooms.rams, p, cell, place)
         }
     }
 }
@@ -142,44 +129,37 @@ fn leave_pin(
 // Event i.
 fn act(
     n: NetlistTables,
-    drivers: &mut [u32],
-    work: &mut [u32],
+    draft: &mut Draft,
     outputs: &mut [u32],
-    at: usize,
     rooms: Rooms,
-    t: Tally,
     i: usize,
-) -> Option<Tally>
-    requires visiting { Visiting (netlist_in n) rooms work.old drivers.old outputs.old t at i }
+) -> Option<()>
+    requires visiting { IsVisiting (netlist_in n) rooms draft.old outputs.old i }
     requires i_bound { i < 2 * length n.list.now }
-    ensures { Moved (netlist_in n.entry) rooms (state_at (netlist_in n.entry) (i + 1)) work.old drivers.old outputs.old work.new drivers.new outputs.new result }
+    ensures { Moves (netlist_in n.entry) rooms (state_at (netlist_in n.entry) (i + 1)) draft.old outputs.old draft.new outputs.new result }
 {
     let place = 2 * n.list.len() + i;
-    let event = word(work, place);
+    let event = draft.work[place];
     let p = event / 2;
     if event % 2 == 1 {
-        leave_pin(n, drivers, work, outputs, at, rooms, t, i, p)
+        leave_pin(n, draft, outputs, rooms, i, p)
     } else {
-        enter_pin(n, drivers, work, outputs, at, rooms, t, i, p)
+        enter_pin(n, draft, outputs, rooms, i, p)
     }
 }
 
 // All events.
 pub fn visit_pins(
     n: NetlistTables,
-    drivers: &mut [u32],
-    work: &mut [u32],
+    draft: &mut Draft,
     outputs: &mut [u32],
-    at: usize,
     rooms: Rooms,
-    t: Tally,
-) -> Option<Tally>
-    requires { Visiting (netlist_in n) rooms work.old drivers.old outputs.old t at 0 }
-    ensures { Moved (netlist_in n.entry) rooms (step2 (netlist_in n.entry)) work.old drivers.old outputs.old work.new drivers.new outputs.new result }
+) -> Option<()>
+    requires { IsVisiting (netlist_in n) rooms draft.old outputs.old 0 }
+    ensures { Moves (netlist_in n.entry) rooms (step2 (netlist_in n.entry)) draft.old outputs.old draft.new outputs.new result }
 {
-    let mut tally = t;
     for i in 0..2 * n.list.len() {
-        tally = act(n, drivers, work, outputs, at, rooms, tally, i)?;
+        act(n, draft, outputs, rooms, i)?;
     }
-    Some(tally)
+    Some(())
 }

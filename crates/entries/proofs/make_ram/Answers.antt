@@ -1,5 +1,11 @@
-use Rattle.entries.proofs.Making.{ram_fits}
+use mathlib.Core.Path.{refl}
+use Rattle.std.specs.Prelude.{None}
+use Rattle.entries.proofs.Making.{adds_ram}
 use Rattle.entries.proofs.make_ram.Goals as goal
 
+pub returns-in_err-draft : goal.returns-in_err-draft
+returns-in_err-draft c = rw c.from_residual-in_err-draft.ensures
+    (adds_ram _ _ _ _ c.args.draft.now c.push.new.self c.push.ensures.same_words _ _ c.in_ok-lit.ensures.adds _ _ None _ refl c.put_literal.ensures c.number_cell-count.ensures.work_after _ c.number_cell-count.ensures.value c.in_err-draft.ensures)
+
 pub returns : goal.returns
-returns c = search (ram_fits, c.in_ok-step.ensures)
+returns c = adds_ram _ _ _ _ c.args.draft.now c.push.new.self c.push.ensures.same_words _ _ c.in_ok-lit.ensures.adds _ _ _ _ refl c.put_literal.ensures c.number_cell-count.ensures.work_after _ c.number_cell-count.ensures.value c.in_ok-draft.ensures

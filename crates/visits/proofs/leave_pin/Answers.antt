@@ -1,4 +1,5 @@
 use Rattle.visits.proofs.Leaves.{leave_take, copy_in, leave_copy, port_in, output_in, leave_output, leave_input, first_place, second_place, leave_and, stored-own, leave_flop, read_place, leave_ram}
+use mathlib.Core.Path.{refl}
 use Rattle.visits.proofs.leave_pin.Goals as goal
 
 pub operand-lit-requires : goal.operand-lit-requires
@@ -23,22 +24,22 @@ pub make_ram-requires-clause-place_lt_m : goal.make_ram-requires-clause-place_lt
 make_ram-requires-clause-place_lt_m c = search read_place
 
 pub returns-in-Take : goal.returns-in-Take
-returns-in-Take c = search leave_take
+returns-in-Take c = record { loans = record { drivers = refl; work = refl; place = refl }; moved = search leave_take }
 
 pub returns-in-Copy : goal.returns-in-Copy
-returns-in-Copy c = search leave_copy
+returns-in-Copy c = record { loans = record { drivers = refl; work = refl; place = refl }; moved = search leave_copy }
 
 pub returns-in-Output : goal.returns-in-Output
-returns-in-Output c = search leave_output
+returns-in-Output c = record { loans = c.add_output.ensures.loans; moved = search (leave_output, c.add_output.ensures.drivers, c.add_output.ensures.made) }
 
 pub returns-in-Input : goal.returns-in-Input
-returns-in-Input c = search leave_input
+returns-in-Input c = record { loans = c.port_out.ensures.loans; moved = search (leave_input, c.port_out.ensures.left) }
 
 pub returns-in-And : goal.returns-in-And
-returns-in-And c = search leave_and
+returns-in-And c = record { loans = c.and_out.ensures.loans; moved = search (leave_and, c.and_out.ensures.left) }
 
 pub returns-in-Flop : goal.returns-in-Flop
-returns-in-Flop c = search leave_flop
+returns-in-Flop c = record { loans = c.stored_out.ensures.loans; moved = search (leave_flop, c.stored_out.ensures.left) }
 
 pub returns-in-Ram : goal.returns-in-Ram
-returns-in-Ram c = search leave_ram
+returns-in-Ram c = record { loans = c.make_ram.ensures.loans; moved = search (leave_ram, c.make_ram.ensures.made) }

@@ -2,4 +2,4 @@ use Rattle.visits.proofs.Leaves.{stored-left}
 use Rattle.visits.proofs.stored_out.Goals as goal
 
 pub returns : goal.returns
-returns c = search stored-left
+returns c = record { loans = c.flop_out.ensures.loans; left = search (stored-left, c.flop_out.ensures.left) }
