@@ -1,29 +1,24 @@
 -- 3 to 11 and the graph, then the whole call, in the code's shape.
 use mathlib.Core.Path.{◌≡◌, refl, sym, ap, ◌∙◌}
-use mathlib.Core.Bool.{true, false}
 use mathlib.Core.List.{List}
 use Prim.Native.Nat.{ℕ, zero, suc, ◌+◌, ◌*◌}
-use native.Mathlib.Omega.{arith}
 use lib.ListN.{length}
-use Rattle.std.specs.Prelude.{Option, Some, None, Result, Ok, Err}
+use Rattle.std.specs.Prelude.{Some, None, Ok, Err}
 use Rattle.laws.specs.Tests.{refuse}
-use Rattle.laws.proofs.Tests.{next-refused, refused, passed}
+use Rattle.laws.proofs.Tests.{next-refused, refused}
 use Rattle.laws.proofs.Words.{zeros-length}
 use Rattle.rules.specs.declared.Rooms.{Rooms}
 use Rattle.rules.specs.declared.Refusal.{Refusal}
 use Rattle.rules.specs.declared.Refusal.TheVariants.{Room}
-use Rattle.rules.specs.declared.Tally.{Tally}
 use Rattle.rules.specs.Netlist.{Netlist, size}
 use Rattle.rules.specs.Build.{graph_of, tally}
 use Rattle.rules.specs.Refusals.{netlist_number, room_fits}
-use Rattle.rules.specs.Answers.{BuildLengths, BuildTables, build_tables, build_answer, done_of}
+use Rattle.rules.specs.Answers.{BuildLengths, BuildTables, build_tables, done_of}
 use Rattle.rules.proofs.Tables.{clash}
 use Rattle.walk.proofs.Answered.{refused_too, or_refused}
 use Rattle.roles.specs.Reading.{tables}
-use Rattle.checks.specs.Ready.{Asked}
 use Rattle.prepares.specs.Prepared.{MadeReady, TurnedAway}
-use Rattle.draws.specs.Drawing.{empty, undrawn}
-use Rattle.aig.specs.Building.{lent, lengths_of, blank, asked, Unfinished, unfinished, Finished, finished, too_small, Waiting, waiting, number, BuiltAs}
+use Rattle.aig.specs.Building.{lent, lengths_of, blank, asked, Finished, finished, too_small, Waiting, waiting, number, BuiltAs}
 
 -- ---- a refusal, and success
 pub blank-held : (k : ℕ) (n : Netlist) (l : BuildLengths) (e : Refusal) → Err e ≡ done_of k → blank l ≡ build_tables k n l
@@ -54,12 +49,6 @@ blank_again n rm k t t₁ t₂ e l f = f ∙ ap blank (l ∙ ap (λ (x : BuildTa
 module _ (kinds starts list pins nets : List ℕ) (rm : Rooms) (w ws os fs rs ls ss es : List ℕ) (u : Waiting kinds starts list pins rm w (lent ws os fs rs ls ss es)) where
   abbrev n : Netlist
   n = tables kinds starts list pins nets
-
-  pub asked_for : Asked kinds starts list pins w
-  asked_for = from u
-    where
-      from : Waiting kinds starts list pins rm w (lent ws os fs rs ls ss es) → Asked kinds starts list pins w
-      from (waiting a b c d e) = a
 
   blank_all : lent ws os fs rs ls ss es ≡ blank (asked (length list) rm (length w))
   blank_all = from u
