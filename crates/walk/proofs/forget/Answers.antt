@@ -7,5 +7,3 @@ loop-i-init c = search forget_begins
 pub loop-i-preserved : goal.loop-i-preserved
 loop-i-preserved c = search forget_goes_on
 
-pub returns : goal.returns
-returns c = search forget_ends
