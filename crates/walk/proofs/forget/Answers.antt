@@ -6,4 +6,3 @@ loop-i-init c = search forget_begins
 
 pub loop-i-preserved : goal.loop-i-preserved
 loop-i-preserved c = search forget_goes_on
-

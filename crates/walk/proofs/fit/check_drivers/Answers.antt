@@ -7,4 +7,3 @@ returns-then-not-driver_fits c = search (fit_fails, not-true)
 
 pub loop-u-preserved : goal.loop-u-preserved
 loop-u-preserved c = search (fit_goes_on, not-false)
-
