@@ -19,16 +19,22 @@ use Rattle.rules.proofs.Tables.{clash}
 use Rattle.builds.proofs.Growing.{Keeps, keeps_trans}
 use Rattle.roles.specs.Reading.{Fits}
 use Rattle.roles.proofs.Fitting.{laid}
-use Rattle.drafts.specs.declared.Added.{Added}
-use Rattle.drafts.specs.Table.{Table, drafted, Extends, made}
+use Rattle.drafts.specs.declared.Draft.{Draft}
+use Rattle.drafts.specs.Table.{Added, Table, drafted, drivers_of, Open, Extends, made, added, SameLoans, Adds}
 use Rattle.drafts.specs.Table as table
 use Rattle.drafts.specs.Layout.{start_of}
-use Rattle.drafts.proofs.Steps.{below_refl, below_trans, ends_refl, ends_trans, Extended}
-use Rattle.activity.specs.Traced.{Ground, Going, start_at}
+use Rattle.drafts.proofs.Steps.{below_refl, below_trans, ends_refl, ends_trans, Extended, extended, longer_full}
+use Rattle.drafts.proofs.Drafting.{loans_trans}
+use Rattle.activity.specs.Traced.{Ground, Going, IsGoing, start_at}
 
 -- nothing is made
 pub nothing_made : (at : ℕ) (w ws : List ℕ) (t : Tally) (l : Literal) → Table at w ws t → Extends at (start_at (drafted ws t) l.word) w ws t w ws (Some (record { lit = l; tally = t }))
 nothing_made at w ws t l h = made (record { lit = l; tally = t }) refl refl h refl (ends_refl t) (below_refl at w) refl
+
+-- a step of a draft, by the place of one that it goes on from
+pub moved : (m : Made) (d₀ d d' : Draft) (r : Option Literal) → SameLoans d₀ d → Adds m d d' r
+    → Extends d₀.at m d.work.now d.drivers.now d.tally d'.work.now d'.drivers.now (added r d'.tally)
+moved m d₀ d d' r l s = subst (λ (x : ℕ). Extends x m d.work.now d.drivers.now d.tally d'.work.now d'.drivers.now (added r d'.tally)) l.place s.extends
 
 -- ---- what a step leaves
 module _ (at : ℕ) (m : Made) (w ws : List ℕ) (t : Tally) (w₁ ws₁ : List ℕ) where
@@ -84,3 +90,31 @@ going_after n at m w ws t w₁ ws₁ one g s k = record {
   table = s.table;
   keeps = subst (Keeps (step2 n).drivers) (sym s.drivers) (keeps_trans g.keeps k);
 }
+
+-- ---- the same of drafts
+module _ (m : Made) (d₀ d : Draft) where
+  pub adds_longer : (m' : Made) → length m.drivers ≤ length m'.drivers → Adds m d₀ d None → Adds m' d₀ d None
+  adds_longer m' l s = record { loans = s.loans; extends = longer_full d₀.at m d₀.work.now d₀.drivers.now d₀.tally d.work.now d.drivers.now m' l s.extends }
+
+  module _ (lit : Literal) (s : Adds m d₀ d (Some lit)) where
+    pub adds_extended : Extended d₀.at m d₀.work.now d₀.drivers.now d₀.tally d.work.now d.drivers.now (record { lit = lit; tally = d.tally })
+    adds_extended = extended d₀.at m d₀.work.now d₀.drivers.now d₀.tally d.work.now d.drivers.now (record { lit = lit; tally = d.tally }) s.extends
+
+    pub adds_open : Open d
+    adds_open = subst (λ (x : ℕ). Table x d.work.now d.drivers.now d.tally) (sym s.loans.place) adds_extended.table
+
+    pub adds_going : (n : Netlist) → IsGoing n d₀ → Keeps (drivers_of d₀) m.drivers → IsGoing n d
+    adds_going n g k = subst (λ (x : ℕ). Going n x d.work.now d.drivers.now d.tally) (sym s.loans.place)
+        (going_after n d₀.at m d₀.work.now d₀.drivers.now d₀.tally d.work.now d.drivers.now (record { lit = lit; tally = d.tally }) g adds_extended k)
+
+    -- another step begins where this one ends
+    pub adds_goes_on : (m' : Made) (d₂ : Draft) (r : Option Literal) → Adds m' d d₂ r → Adds m' d₀ d₂ r
+    adds_goes_on m' d₂ r u = record {
+      loans = loans_trans s.loans u.loans;
+      extends = goes_on d₀.at m d₀.work.now d₀.drivers.now d₀.tally d.work.now d.drivers.now (record { lit = lit; tally = d.tally }) adds_extended m'
+          d₂.work.now d₂.drivers.now (added r d₂.tally) (moved m' d₀ d d₂ r s.loans u);
+    }
+
+    -- of what is made of the drivers that this one leaves
+    pub adds_onward : (f : List Driver → Made) (d₂ : Draft) (r : Option Literal) → Adds (f (drivers_of d)) d d₂ r → Adds (f m.drivers) d₀ d₂ r
+    adds_onward f d₂ r u = adds_goes_on (f m.drivers) d₂ r (subst (λ (ds : List Driver). Adds (f ds) d d₂ r) adds_extended.drivers u)

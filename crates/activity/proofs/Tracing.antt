@@ -35,12 +35,13 @@ use Rattle.clocks.specs.declared.WalkEnd.{WalkEnd}
 use Rattle.clocks.specs.declared.WalkEnd.TheVariants.{Root}
 use Rattle.clocks.specs.declared.Walked.{Walked}
 use Rattle.clocks.specs.Walks.{end_of, enables, told}
-use Rattle.drafts.specs.declared.Added.{Added}
-use Rattle.drafts.specs.Table.{Table, drafted, Extends}
+use Rattle.drafts.specs.declared.Draft.{Draft}
+use Rattle.drafts.specs.Table.{Added, Table, drafted, drivers_of, Extends, SameLoans, Adds}
 use Rattle.drafts.specs.Layout.{flag_word}
-use Rattle.activity.specs.Traced.{lits, Going, Clocked, end_lit, EndKnown, gates_over, start_at, entry_traced}
+use Rattle.activity.specs.Traced.{lits, Going, IsGoing, Clocked, end_lit, EndKnown, gates_over, start_at, entry_traced}
 use Rattle.drafts.proofs.Steps.{Extended, extended, longer_full}
-use Rattle.activity.proofs.Composing.{nothing_made, goes_on, going_after}
+use Rattle.drafts.proofs.Drafting.{loans_refl, loans_trans}
+use Rattle.activity.proofs.Composing.{moved, nothing_made, goes_on, going_after}
 
 -- ---- where a walk ends
 module _ (m : ℕ) (w : List ℕ) (end : WalkEnd) where
@@ -171,6 +172,44 @@ module _ (n : Netlist) (p at : ℕ) (w₀ ws₀ : List ℕ) (t₀ : Tally) (l₀
         → Extends at (gates_over (lits n) (start_at (drafted ws₀ t₀) l₀) (enables (walk n p))) w₀ ws₀ t₀ w' ws' None
     passing_fails s = longer_full at (up_to (i + 1)) w₀ ws₀ t₀ w' ws' (gates_over (lits n) (start_at (drafted ws₀ t₀) l₀) es)
         (gates_longer (lits n) es (i + 1) (start_at (drafted ws₀ t₀) l₀)) (onward None s)
+
+-- ---- the same of drafts
+pub record PassingDraft (n : Netlist) (p : ℕ) (d₀ : Draft) (l₀ : ℕ) (d : Draft) (i : ℕ) (lit : Literal) : Type 0 where
+  pub loans : SameLoans d₀ d
+  pub passing : Passing n p d₀.at d₀.work.now d₀.drivers.now d₀.tally l₀ d.work.now d.drivers.now i (record { lit = lit; tally = d.tally })
+
+pub walk_begins : (n : Netlist) (p : ℕ) (d : Draft) (lit : Literal) → IsGoing n d → PassingDraft n p d lit.word d 0 lit
+walk_begins n p d lit g = record { loans = loans_refl d; passing = passing_begins n p d.at d.work.now d.drivers.now (record { lit = lit; tally = d.tally }) g }
+
+module _ (n : Netlist) (p : ℕ) (d₀ : Draft) (l₀ : ℕ) (d : Draft) (i : ℕ) (lit : Literal) (h : PassingDraft n p d₀ l₀ d i lit) where
+  pub walk_going : IsGoing n d
+  walk_going = subst (λ (x : ℕ). Going n x d.work.now d.drivers.now d.tally) (sym h.loans.place) h.passing.going
+
+  module _ (gates : ℕ) (eg : gates ≡ length (enables (walk n p))) where
+    pub walk_ends : gates ≤ i → Adds (gates_over (lits n) (start_at (drivers_of d₀) l₀) (enables (walk n p))) d₀ d (Some lit)
+    walk_ends l = record {
+      loans = h.loans;
+      extends = passing_ends n p d₀.at d₀.work.now d₀.drivers.now d₀.tally l₀ d.work.now d.drivers.now i (record { lit = lit; tally = d.tally }) h.passing gates eg l;
+    }
+
+    module _ (lg : i < gates) (d' : Draft) where
+      abbrev m : Made
+      m = and_of (drivers_of d) lit.word (lits n (get_or (enables (walk n p)) i 0))
+
+      pub walk_goes_on : (step : Literal) → Adds (and_of (drivers_of d) lit.word (lits n (get_or (enables (walk n p)) i 0))) d d' (Some step) → PassingDraft n p d₀ l₀ d' (i + 1) step
+      walk_goes_on step s = record {
+        loans = loans_trans h.loans s.loans;
+        passing = passing_goes_on n p d₀.at d₀.work.now d₀.drivers.now d₀.tally l₀ d.work.now d.drivers.now i (record { lit = lit; tally = d.tally }) h.passing gates eg
+            d'.work.now d'.drivers.now lg (record { lit = step; tally = d'.tally }) (moved m d₀ d d' (Some step) h.loans s);
+      }
+
+      pub walk_fails : Adds (and_of (drivers_of d) lit.word (lits n (get_or (enables (walk n p)) i 0))) d d' None
+          → Adds (gates_over (lits n) (start_at (drivers_of d₀) l₀) (enables (walk n p))) d₀ d' None
+      walk_fails s = record {
+        loans = loans_trans h.loans s.loans;
+        extends = passing_fails n p d₀.at d₀.work.now d₀.drivers.now d₀.tally l₀ d.work.now d.drivers.now i (record { lit = lit; tally = d.tally }) h.passing gates eg
+            d'.work.now d'.drivers.now lg (moved m d₀ d d' None h.loans s);
+      }
 
 -- ---- the whole walk
 -- what the end of a walk makes

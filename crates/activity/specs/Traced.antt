@@ -14,6 +14,7 @@ use Rattle.roles.specs.Reading.{Fits}
 use Rattle.clocks.specs.Walks.{enables}
 use Rattle.clocks.specs.declared.WalkEnd.{WalkEnd}
 use Rattle.clocks.specs.declared.WalkEnd.TheVariants.{Still, Root, Strange, Far}
+use Rattle.drafts.specs.declared.Draft.{Draft}
 use Rattle.drafts.specs.Table.{Table, drafted}
 use Rattle.drafts.specs.Layout.{Written, Flags}
 
@@ -35,6 +36,10 @@ pub record Going (n : Netlist) (at : ℕ) (w ws : List ℕ) (t : Tally) : Type 0
   pub grounded : Ground n at w
   pub table : Table at w ws t
   pub keeps : Keeps (step2 n).drivers (drafted ws t)
+
+-- the same of a draft
+abbrev pub IsGoing : Netlist → Draft → Type 0
+IsGoing n d = Going n d.at d.work.now d.drivers.now d.tally
 
 -- a pin whose walk ends at a constant net, or at a port whose flag is there
 pub record Clocked (n : Netlist) (p : ℕ) : Type 0 where

@@ -2,12 +2,13 @@
 use Rattle.std.specs.Prelude.{◌≡◌, Option, Some, None, List, map, ℕ, ◌*◌, ◌<◌, length}
 use Rattle.laws.specs.Lists.{flat, over, upto}
 use Rattle.laws.specs.Words.{SameBelow, filled}
+use Rattle.rules.specs.declared.Literal.{Literal}
 use Rattle.rules.specs.declared.Tally.{Tally}
 use Rattle.rules.specs.Netlist.{Netlist, kind_of, dff, ram}
 use Rattle.rules.specs.Tables.{record_words, ram_words}
 use Rattle.rules.specs.Build.{Ends, end_cell, start3, step2, step3, record_of, ram_row_of}
-use Rattle.drafts.specs.declared.Added.{Added}
-use Rattle.drafts.specs.Table.{Table, drafted}
+use Rattle.drafts.specs.declared.Draft.{Draft}
+use Rattle.drafts.specs.Table.{Table, drafted, counted, SameLoans}
 use Rattle.flops.specs.Flopped.{FlopDone}
 use Rattle.memories.specs.Remembered.{RamDone}
 
@@ -16,11 +17,11 @@ unfoldable pub ends_at : Netlist → ℕ → Ends
 ends_at n i = over (end_cell n (step2 n).lits) (start3 (step2 n)) (upto i)
 
 -- what one cell leaves: a flip-flop, a RAM, or a cell of which step 3 makes nothing
-pub data CellDone (n : Netlist) (c at : ℕ) (w ws : List ℕ) (t : Tally) (dffs rams w' ws' dffs' rams' : List ℕ) (r : Option Added) : Type 0 where
-  flopped : kind_of n c ≡ dff → FlopDone n c at w ws t dffs w' ws' dffs' r → rams' ≡ rams → CellDone n c at w ws t dffs rams w' ws' dffs' rams' r
-  remembered : kind_of n c ≡ ram → RamDone n c at w ws t rams w' ws' rams' r → dffs' ≡ dffs → CellDone n c at w ws t dffs rams w' ws' dffs' rams' r
-  passed : (kind_of n c ≡ dff → ⊥) → (kind_of n c ≡ ram → ⊥) → (a : Added) → r ≡ Some a → a.tally ≡ t → w' ≡ w → ws' ≡ ws → dffs' ≡ dffs → rams' ≡ rams
-      → CellDone n c at w ws t dffs rams w' ws' dffs' rams' r
+pub data CellDone (n : Netlist) (c : ℕ) (d : Draft) (dffs rams : List ℕ) (d' : Draft) (dffs' rams' : List ℕ) (r : Option Literal) : Type 0 where
+  flopped : kind_of n c ≡ dff → FlopDone n c d dffs d' dffs' r → rams' ≡ rams → CellDone n c d dffs rams d' dffs' rams' r
+  remembered : kind_of n c ≡ ram → RamDone n c d rams d' rams' r → dffs' ≡ dffs → CellDone n c d dffs rams d' dffs' rams' r
+  passed : (kind_of n c ≡ dff → ⊥) → (kind_of n c ≡ ram → ⊥) → (l : Literal) → r ≡ Some l → d' ≡ d → dffs' ≡ dffs → rams' ≡ rams
+      → CellDone n c d dffs rams d' dffs' rams' r
 
 -- the records of all flip-flops, and the rows of all RAMs, in words
 abbrev pub all_records : Netlist → List ℕ
@@ -38,3 +39,8 @@ pub data EndsDone (n : Netlist) (at : ℕ) (w ws : List ℕ) (t : Tally) (dffs r
       → EndsDone n at w ws t dffs rams w' ws' dffs' rams' r
   no_rams : r ≡ None → length rams < 123 * length (step3 n).rams → length w' ≡ length w → length ws' ≡ length ws → length dffs' ≡ length dffs → length rams' ≡ length rams
       → EndsDone n at w ws t dffs rams w' ws' dffs' rams' r
+
+-- the same of a draft
+pub record AddsEnds (n : Netlist) (d : Draft) (dffs rams : List ℕ) (d' : Draft) (dffs' rams' : List ℕ) (r : Option (Unit {0})) : Type 0 where
+  pub loans : SameLoans d d'
+  pub ends : EndsDone n d.at d.work.now d.drivers.now d.tally dffs rams d'.work.now d'.drivers.now dffs' rams' (counted r d'.tally)

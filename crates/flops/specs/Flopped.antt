@@ -4,7 +4,7 @@ use Rattle.laws.specs.Lists.{first_or}
 use Rattle.laws.proofs.Indices.{place}
 use Rattle.rules.specs.declared.Driver.{Driver}
 use Rattle.rules.specs.declared.Record.{Record}
-use Rattle.rules.specs.declared.Tally.{Tally}
+use Rattle.rules.specs.declared.Literal.{Literal}
 use Rattle.rules.specs.Netlist.{Netlist, size, named, #D, #CLK, #S, #R}
 use Rattle.rules.specs.Graph.{Made, and_of, or_not}
 use Rattle.rules.specs.Tables.{record_words}
@@ -12,8 +12,8 @@ use Rattle.rules.specs.Build.{step2}
 use Rattle.rules.specs.Refusals.{Accepted}
 use Rattle.words.proofs.Tables.{Writing}
 use Rattle.roles.specs.Reading.{Fits, either_in, cell_pins, entry_of}
-use Rattle.drafts.specs.declared.Added.{Added}
-use Rattle.drafts.specs.Table.{drafted, Extends}
+use Rattle.drafts.specs.declared.Draft.{Draft}
+use Rattle.drafts.specs.Table.{drivers_of, Adds}
 use Rattle.drafts.specs.Layout.{Written}
 use Rattle.activity.specs.Traced.{lits, start_at, entry_traced}
 use Rattle.flops.specs.declared.Pair.{Pair}
@@ -46,12 +46,12 @@ abbrev pub flop_both : List Driver → ℕ → ℕ → ℕ → ℕ → Both
 flop_both ds d a s r = both_reset (both_set ds d a s).drivers (both_set ds d a s).first (both_set ds d a s).second r
 
 -- the second of them, as a step gives it
-abbrev pub second_of : Option Pair → Option Added
-second_of (Some p) = Some (record { lit = p.second; tally = p.tally })
+abbrev pub second_of : Option Pair → Option Literal
+second_of (Some p) = Some p.second
 second_of None = None
 
-pub record Doubles (at : ℕ) (b : Both) (w ws : List ℕ) (t : Tally) (w' ws' : List ℕ) (r : Option Pair) : Type 0 where
-  pub step : Extends at (start_at b.drivers b.second) w ws t w' ws' (second_of r)
+pub record Doubles (b : Both) (d d' : Draft) (r : Option Pair) : Type 0 where
+  pub step : Adds (start_at b.drivers b.second) d d' (second_of r)
   pub first : IfSome r (λ p. p.first.word ≡ b.first)
 
 -- ---- a flip-flop cell
@@ -67,7 +67,7 @@ abbrev pub flop_record : Netlist → List Driver → ℕ → Record
 flop_record n ds c = record { next = (flop_made n ds c).first; enable = (flop_made n ds c).second; pin = (step2 n).flop_pin c }
 
 -- all of it is made, and the record stands in the table; or there is no room for it
-pub record FlopDone (n : Netlist) (c at : ℕ) (w ws : List ℕ) (t : Tally) (dffs w' ws' dffs' : List ℕ) (r : Option Added) : Type 0 where
-  pub step : Extends at (start_at (flop_made n (drafted ws t) c).drivers (flop_made n (drafted ws t) c).second) w ws t w' ws' r
-  pub row : OnSome r (Writing dffs (3 * place c (step2 n).flops) (λ j. get_or (record_words (flop_record n (drafted ws t) c)) j 0) 3 dffs')
+pub record FlopDone (n : Netlist) (c : ℕ) (d : Draft) (dffs : List ℕ) (d' : Draft) (dffs' : List ℕ) (r : Option Literal) : Type 0 where
+  pub step : Adds (start_at (flop_made n (drivers_of d) c).drivers (flop_made n (drivers_of d) c).second) d d' r
+  pub row : OnSome r (Writing dffs (3 * place c (step2 n).flops) (λ j. get_or (record_words (flop_record n (drivers_of d) c)) j 0) 3 dffs')
   pub long : length dffs' ≡ length dffs

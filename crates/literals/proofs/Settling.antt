@@ -63,12 +63,12 @@ leaves_and m p x y z a b d d₁ r one two e₁ e₂ s =
     (subst (λ (u : ℕ). Leaves m p (turned_made z (and_of (drivers_of d) u two.word)) d d₁ r) e₁ s)
 
 -- ---- the literal of a cell's pin by its name
-first_some : (d : ℕ) (f : ℕ → ℕ) (l : List ℕ) (q : ℕ) → Some q ≡ entry_of l 0 → f q ≡ first_or d f l
+pub first_some : (d : ℕ) (f : ℕ → ℕ) (l : List ℕ) (q : ℕ) → Some q ≡ entry_of l 0 → f q ≡ first_or d f l
 unfolding entry_of
 first_some d f [] q s = clash (cc)
 first_some d f (x ∷ l) q s = let e : q ≡ x = cc in ap f e
 
-first_none : (d : ℕ) (f : ℕ → ℕ) (l : List ℕ) → None ≡ entry_of l 0 → d ≡ first_or d f l
+pub first_none : (d : ℕ) (f : ℕ → ℕ) (l : List ℕ) → None ≡ entry_of l 0 → d ≡ first_or d f l
 unfolding entry_of
 first_none d f [] s = refl
 first_none d f (x ∷ l) s = clash (cc)

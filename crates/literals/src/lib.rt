@@ -95,7 +95,7 @@ pub fn and_out(
 }
 
 // The literal of a cell's pin of this name; where it has none, the literal that stands for it.
-fn named_literal(n: NetlistTables, draft: &Draft, cell: u32, name: u32, absent: u32) -> Literal
+pub fn named_literal(n: NetlistTables, draft: &Draft, cell: u32, name: u32, absent: u32) -> Literal
     requires fits { Fits (netlist_in n) }
     requires cell_in_bounds { cell < length n.kinds.now }
     requires list_in_bounds { 8 * length n.list.now ≤ length draft.now.work.now }

@@ -8,7 +8,8 @@ use native.Mathlib.Omega.{arith}
 use lib.ListN.{length, get_or, set, length-set, take, drop}
 use lib.Seq.{get_or-set_same, get_or-set_other}
 use borrow.Author.Tests.{eq-eqb, ne_eqb, lt-ltb, ltb-true, ltb-false, eqb-true, eqb-false, leb-true, leb-false}
-use Rattle.std.specs.Prelude.{Option, Some, None, OnSome, ◌==◌}
+use Rattle.std.specs.Prelude.{Option, Some, None, ◌==◌}
+use Rattle.std.proofs.lemmas.Option.{IfSome_then}
 use Rattle.laws.specs.Tests.{◌<?◌, ◌≤?◌}
 use Rattle.laws.specs.Lists.{count, member}
 use Rattle.laws.specs.Words.{part}
@@ -29,24 +30,19 @@ use Rattle.builds.proofs.Walks.{trace_grows}
 use Rattle.words.proofs.Tables.{Writing, writing_begins, writing_goes_on}
 use Rattle.roles.specs.Reading.{Laid, either_in, has_name, cell_pins, entry_of, kind_at}
 use Rattle.roles.proofs.Fitting.{laid}
-use Rattle.drafts.specs.declared.Added.{Added}
-use Rattle.drafts.specs.Table.{Table, drafted, Extends, made}
+use Rattle.drafts.specs.declared.Draft.{Draft}
+use Rattle.drafts.specs.Table.{drivers_of, made, Open, Adds}
 use Rattle.drafts.specs.Layout.{number_in}
-use Rattle.activity.specs.Traced.{lits, Ground, Going, start_at, entry_traced}
-use Rattle.drafts.proofs.Steps.{Extended, extended, longer_full}
-use Rattle.activity.proofs.Composing.{nothing_made, extends, goes_on, onward, ground_after, going_after}
+use Rattle.activity.specs.Traced.{lits, Going, IsGoing, start_at, entry_traced}
+use Rattle.drafts.proofs.Drafting.{loans_refl}
+use Rattle.activity.proofs.Composing.{nothing_made, adds_longer, adds_extended, adds_going, adds_goes_on, adds_onward}
 use Rattle.activity.proofs.Tracing.{entry_in}
 use Rattle.flops.specs.declared.Pair.{Pair}
 use Rattle.flops.specs.Flopped.{Known, Both, Doubles}
-use Rattle.flops.proofs.Flopping.{pair_stops}
+use Rattle.flops.proofs.Flopping.{known, pair_stops}
 use Rattle.rows.specs.Words.{plain_word}
-use Rattle.memories.specs.Remembered.{clock_at, clocks_made, reads_first, turned, ram_clocks, bits_made, BitsDone, enable_of, row_made, row_word, ClockedDone, ram_made, RowDone, RamDone, begun, fresh, short}
+use Rattle.memories.specs.Remembered.{clock_at, clocks_made, reads_first, turned, ram_clocks, bits_made, BitsDone, enable_of, row_made, row_word, ClockedDone, ram_made, RowDone, with_more, RamDone, begun, fresh, short}
 use Rattle.memories.proofs.Begun.{begun_pin}
-
--- what follows where there is a value
-OnSome_then : {T P Q : Type 0} (r : Option T) → OnSome r P → (P → Q) → OnSome r Q
-OnSome_then (Some x) p f = f p
-OnSome_then None p f = tt
 
 -- ---- the clocks
 pub entry_keeps : (n : Netlist) (ds : List Driver) (e : Option ℕ) → Keeps ds (entry_traced n ds e).drivers
@@ -60,36 +56,32 @@ module _ (kinds : List ℕ) (c : ℕ) (e : kind_at (get_or kinds c 0) ≡ ram) w
   pub write_named : is_clock (kind_at (get_or kinds c 0)) 14 ≡ true
   write_named = rw e
 
-module _ (n : Netlist) (at : ℕ) (w ws : List ℕ) (t : Tally) (c : ℕ) (w₁ ws₁ : List ℕ) where
+module _ (n : Netlist) (d : Draft) (c : ℕ) (d₁ : Draft) where
   abbrev first : Made
-  first = entry_traced n (drafted ws t) (clock_at n c 0)
+  first = entry_traced n (drivers_of d) (clock_at n c 0)
 
   abbrev second : Made
   second = entry_traced n first.drivers (clock_at n c 1)
 
-  pub clocks_stop : Extends at (entry_traced n (drafted ws t) (entry_of (either_in n.pins 11 14 (cell_pins n.starts n.list c)) 0)) w ws t w₁ ws₁ None
-      → Doubles at (clocks_made n (drafted ws t) c) w ws t w₁ ws₁ None
-  clocks_stop s = pair_stops at first w ws t w₁ ws₁ (clocks_made n (drafted ws t) c) s (entry_keeps n first.drivers (clock_at n c 1))
+  pub clocks_stop : Adds (entry_traced n (drivers_of d) (entry_of (either_in n.pins 11 14 (cell_pins n.starts n.list c)) 0)) d d₁ None
+      → Doubles (clocks_made n (drivers_of d) c) d d₁ None
+  clocks_stop s = pair_stops first d d₁ (clocks_made n (drivers_of d) c) s (entry_keeps n first.drivers (clock_at n c 1))
 
-  module _ (one : Added) (s : Extends at (entry_traced n (drafted ws t) (entry_of (either_in n.pins 11 14 (cell_pins n.starts n.list c)) 0)) w ws t w₁ ws₁ (Some one)) where
-    e : Extended at first w ws t w₁ ws₁ one
-    e = extended at first w ws t w₁ ws₁ one s
+  module _ (one : Literal) (s : Adds (entry_traced n (drivers_of d) (entry_of (either_in n.pins 11 14 (cell_pins n.starts n.list c)) 0)) d d₁ (Some one)) where
+    pub clocks_going : IsGoing n d → IsGoing n d₁
+    clocks_going g = adds_going first d d₁ one s n g (entry_keeps n (drivers_of d) (clock_at n c 0))
 
-    pub clocks_going : Going n at w ws t → Going n at w₁ ws₁ one.tally
-    clocks_going g = going_after n at first w ws t w₁ ws₁ one g e (entry_keeps n (drafted ws t) (clock_at n c 0))
+    module _ (d₂ : Draft) where
+      then_second : (r : Option Literal) → Adds (entry_traced n (drivers_of d₁) (entry_of (either_in n.pins 11 14 (cell_pins n.starts n.list c)) 1)) d₁ d₂ r → Adds second d d₂ r
+      then_second = adds_onward first d d₁ one s (λ ds. entry_traced n ds (clock_at n c 1)) d₂
 
-    module _ (w₂ ws₂ : List ℕ) where
-      then_second : (r : Option Added) → Extends at (entry_traced n (drafted ws₁ one.tally) (entry_of (either_in n.pins 11 14 (cell_pins n.starts n.list c)) 1)) w₁ ws₁ one.tally w₂ ws₂ r
-          → Extends at second w ws t w₂ ws₂ r
-      then_second = onward at first w ws t w₁ ws₁ one e (λ ds. entry_traced n ds (clock_at n c 1)) w₂ ws₂
-
-      pub second_stops : Extends at (entry_traced n (drafted ws₁ one.tally) (entry_of (either_in n.pins 11 14 (cell_pins n.starts n.list c)) 1)) w₁ ws₁ one.tally w₂ ws₂ None
-          → Doubles at (clocks_made n (drafted ws t) c) w ws t w₂ ws₂ None
+      pub second_stops : Adds (entry_traced n (drivers_of d₁) (entry_of (either_in n.pins 11 14 (cell_pins n.starts n.list c)) 1)) d₁ d₂ None
+          → Doubles (clocks_made n (drivers_of d) c) d d₂ None
       second_stops s₂ = record { step = then_second None s₂; first = tt }
 
-      pub clocks_made_lem : (two : Added) → Extends at (entry_traced n (drafted ws₁ one.tally) (entry_of (either_in n.pins 11 14 (cell_pins n.starts n.list c)) 1)) w₁ ws₁ one.tally w₂ ws₂ (Some two)
-          → Doubles at (clocks_made n (drafted ws t) c) w ws t w₂ ws₂ (Some (record { first = one.lit; second = two.lit; tally = two.tally }))
-      clocks_made_lem two s₂ = record { step = then_second (Some two) s₂; first = e.lit }
+      pub clocks_made_lem : (two : Literal) → Adds (entry_traced n (drivers_of d₁) (entry_of (either_in n.pins 11 14 (cell_pins n.starts n.list c)) 1)) d₁ d₂ (Some two)
+          → Doubles (clocks_made n (drivers_of d) c) d d₂ (Some (record { first = one; second = two }))
+      clocks_made_lem two s₂ = record { step = then_second (Some two) s₂; first = (adds_extended first d d₁ one s).lit }
 
 -- which is which
 module _ (starts list pins : List ℕ) (c : ℕ) (found : Option ℕ) (h : found ≡ entry_of (either_in pins 11 14 (cell_pins starts list c)) 0) where
@@ -106,29 +98,29 @@ module _ (starts list pins : List ℕ) (c : ℕ) (found : Option ℕ) (h : found
   pub name_none : found ≡ None → true ≡ reads_first pins (entry_of (either_in pins 11 14 (cell_pins starts list c)) 0)
   name_none e = sym (ap (reads_first pins) (sym h ∙ e))
 
-module _ (n : Netlist) (at : ℕ) (w ws : List ℕ) (t : Tally) (c : ℕ) (w₁ ws₁ : List ℕ) where
+module _ (n : Netlist) (d : Draft) (c : ℕ) (d₁ : Draft) where
   abbrev b : Both
-  b = clocks_made n (drafted ws t) c
+  b = clocks_made n (drivers_of d) c
 
   -- whichever is the read clock, the pins that are made are the same
-  pub ram_clocks_stop : Doubles at (clocks_made n (drafted ws t) c) w ws t w₁ ws₁ None → Doubles at (ram_clocks n (drafted ws t) c) w ws t w₁ ws₁ None
+  pub ram_clocks_stop : Doubles (clocks_made n (drivers_of d) c) d d₁ None → Doubles (ram_clocks n (drivers_of d) c) d d₁ None
   ram_clocks_stop h = by_turn (reads_first n.pins (clock_at n c 0))
     where
-      by_turn : (x : Bool) → Doubles at (turned x b) w ws t w₁ ws₁ None
+      by_turn : (x : Bool) → Doubles (turned x b) d d₁ None
       by_turn true = h
-      by_turn false = record { step = longer_full at (start_at b.drivers b.second) w ws t w₁ ws₁ (start_at b.drivers b.first) (omega arith) h.step; first = tt }
+      by_turn false = record { step = adds_longer (start_at b.drivers b.second) d d₁ (start_at b.drivers b.first) (omega arith) h.step; first = tt }
 
   module _ (so : Bool) (both : Pair) (es : so ≡ reads_first n.pins (entry_of (either_in n.pins 11 14 (cell_pins n.starts n.list c)) 0))
-      (h : Doubles at (clocks_made n (drafted ws t) c) w ws t w₁ ws₁ (Some both)) where
-    pub clocks_so : so ≡ true → Doubles at (ram_clocks n (drafted ws t) c) w ws t w₁ ws₁ (Some both)
-    clocks_so e = subst (λ (x : Bool). Doubles at (turned x b) w ws t w₁ ws₁ (Some both)) (sym e ∙ es) h
+      (h : Doubles (clocks_made n (drivers_of d) c) d d₁ (Some both)) where
+    pub clocks_so : so ≡ true → Doubles (ram_clocks n (drivers_of d) c) d d₁ (Some both)
+    clocks_so e = subst (λ (x : Bool). Doubles (turned x b) d d₁ (Some both)) (sym e ∙ es) h
 
-    pub clocks-turned : so ≡ false → Doubles at (ram_clocks n (drafted ws t) c) w ws t w₁ ws₁ (Some (record { first = both.second; second = both.first; tally = both.tally }))
-    clocks-turned e = subst (λ (x : Bool). Doubles at (turned x b) w ws t w₁ ws₁ (Some (record { first = both.second; second = both.first; tally = both.tally }))) (sym e ∙ es)
-        (record { step = made (record { lit = both.first; tally = both.tally }) refl h.first l.table l.drivers l.ends l.below l.long; first = l.lit })
-      where
-        l : Extended at (start_at b.drivers b.second) w ws t w₁ ws₁ (record { lit = both.second; tally = both.tally })
-        l = extended at (start_at b.drivers b.second) w ws t w₁ ws₁ (record { lit = both.second; tally = both.tally }) h.step
+    pub clocks-turned : so ≡ false → Doubles (ram_clocks n (drivers_of d) c) d d₁ (Some (record { first = both.second; second = both.first }))
+    clocks-turned e = let l = adds_extended (start_at b.drivers b.second) d d₁ both.second h.step in
+        subst (λ (x : Bool). Doubles (turned x b) d d₁ (Some (record { first = both.second; second = both.first }))) (sym e ∙ es) (record {
+          step = record { loans = h.step.loans; extends = made (record { lit = both.first; tally = d₁.tally }) refl h.first l.table l.drivers l.ends l.below l.long };
+          first = l.lit;
+        })
 
 -- ---- the write enables
 bits_to : (ds : List Driver) (l : ℕ) (f : ℕ → ℕ) (i k d : ℕ) → d ≡ k + i → Keeps (bits_made ds l f i).drivers (bits_made ds l f d).drivers
@@ -145,60 +137,57 @@ pub bits_same : (ds : List Driver) (l : ℕ) (f g : ℕ → ℕ) (k : ℕ) → (
 bits_same ds l f g zero h = refl
 bits_same ds l f g (suc k) h = ap₂ (λ (m : Made) (x : ℕ). and_of m.drivers x l) (bits_same ds l f g k (λ i b. h i (omega (arith, b)))) (h k (omega arith))
 
-pub record Enabling (at : ℕ) (w₀ ws₀ : List ℕ) (t₀ : Tally) (from l : ℕ) (rams₀ w ws rams : List ℕ) (i : ℕ) (step : Added) : Type 0 where
+pub record Enabling (d₀ : Draft) (from l : ℕ) (rams₀ : List ℕ) (d : Draft) (rams : List ℕ) (i : ℕ) (lit : Literal) : Type 0 where
   pub inside : i ≤ 32
-  pub steps : Extended at (bits_made (drafted ws₀ t₀) l (λ j. get_or rams₀ (from + j) 0) i) w₀ ws₀ t₀ w ws step
-  pub words : Writing rams₀ from (λ j. (bits_made (drafted ws₀ t₀) l (λ k. get_or rams₀ (from + k) 0) (suc j)).lit) i rams
+  pub steps : Adds (bits_made (drivers_of d₀) l (λ j. get_or rams₀ (from + j) 0) i) d₀ d (Some lit)
+  pub words : Writing rams₀ from (λ j. (bits_made (drivers_of d₀) l (λ k. get_or rams₀ (from + k) 0) (suc j)).lit) i rams
 
-pub enabling_begins : (at : ℕ) (w ws : List ℕ) (t : Tally) (from : ℕ) (l : Literal) (rams : List ℕ) → Table at w ws t
-    → Enabling at w ws t from l.word rams w ws rams 0 (record { lit = l; tally = t })
-enabling_begins at w ws t from l rams h = record {
+pub enabling_begins : (d : Draft) (from : ℕ) (l : Literal) (rams : List ℕ) → Open d → Enabling d from l.word rams d rams 0 l
+enabling_begins d from l rams h = record {
   inside = omega arith;
-  steps = extended at (start_at (drafted ws t) l.word) w ws t w ws (record { lit = l; tally = t }) (nothing_made at w ws t l h);
+  steps = record { loans = loans_refl d; extends = nothing_made d.at d.work.now d.drivers.now d.tally l h };
   words = writing_begins rams from _;
 }
 
-module _ (at : ℕ) (w₀ ws₀ : List ℕ) (t₀ : Tally) (from l : ℕ) (rams₀ w ws rams : List ℕ) (i : ℕ) (so : Added) (h : Enabling at w₀ ws₀ t₀ from l rams₀ w ws rams i so) where
+module _ (d₀ : Draft) (from l : ℕ) (rams₀ : List ℕ) (d : Draft) (rams : List ℕ) (i : ℕ) (lit : Literal) (h : Enabling d₀ from l rams₀ d rams i lit) where
   abbrev f : ℕ → ℕ
   f j = get_or rams₀ (from + j) 0
 
   abbrev up_to : ℕ → Made
-  up_to k = bits_made (drafted ws₀ t₀) l f k
+  up_to k = bits_made (drivers_of d₀) l f k
 
-  pub enabling_ends : 32 ≤ i → BitsDone at w₀ ws₀ t₀ from l rams₀ w ws rams (Some so)
+  pub enabling_ends : 32 ≤ i → BitsDone d₀ from l rams₀ d rams (Some lit)
   enabling_ends b = let e : i ≡ 32 = omega (arith, b, h.inside) in record {
-    step = extends at (up_to 32) w₀ ws₀ t₀ w ws so (subst (λ (k : ℕ). Extended at (up_to k) w₀ ws₀ t₀ w ws so) e h.steps);
+    step = subst (λ (k : ℕ). Adds (up_to k) d₀ d (Some lit)) e h.steps;
     words = subst (λ (k : ℕ). Writing rams₀ from (λ j. (up_to (suc j)).lit) k rams) e h.words;
     long = h.words.long;
   }
 
-  module _ (b : i < 32) (w' ws' : List ℕ) where
-    then_this : (r : Option Added) → Extends at (and_of (drafted ws so.tally) (get_or rams (from + i) 0) l) w ws so.tally w' ws' r → Extends at (up_to (suc i)) w₀ ws₀ t₀ w' ws' r
-    then_this r s = subst (λ (x : ℕ). Extends at (and_of (up_to i).drivers x l) w₀ ws₀ t₀ w' ws' r) (h.words.after (from + i) (omega arith))
-        (onward at (up_to i) w₀ ws₀ t₀ w ws so h.steps (λ ds. and_of ds (get_or rams (from + i) 0) l) w' ws' r s)
+  module _ (b : i < 32) (d' : Draft) where
+    then_this : (r : Option Literal) → Adds (and_of (drivers_of d) (get_or rams (from + i) 0) l) d d' r → Adds (up_to (suc i)) d₀ d' r
+    then_this r s = subst (λ (x : ℕ). Adds (and_of (up_to i).drivers x l) d₀ d' r) (h.words.after (from + i) (omega arith))
+        (adds_onward (up_to i) d₀ d lit h.steps (λ ds. and_of ds (get_or rams (from + i) 0) l) d' r s)
 
-    pub enabling_goes_on : (step : Added) → Extends at (and_of (drafted ws so.tally) (get_or rams (from + i) 0) l) w ws so.tally w' ws' (Some step) → from + 32 ≤ length rams₀
-        → Enabling at w₀ ws₀ t₀ from l rams₀ w' ws' (set rams (from + i) step.lit.word) (i + 1) step
+    pub enabling_goes_on : (step : Literal) → Adds (and_of (drivers_of d) (get_or rams (from + i) 0) l) d d' (Some step) → from + 32 ≤ length rams₀
+        → Enabling d₀ from l rams₀ d' (set rams (from + i) step.word) (i + 1) step
     enabling_goes_on step s r = record {
       inside = omega (arith, b);
-      steps = subst (λ (k : ℕ). Extended at (up_to k) w₀ ws₀ t₀ w' ws' step) (sym (add-one i)) now;
-      words = writing_goes_on rams₀ from (λ j. (up_to (suc j)).lit) i rams step.lit.word h.words (omega (arith, r, b)) now.lit;
+      steps = subst (λ (k : ℕ). Adds (up_to k) d₀ d' (Some step)) (sym (add-one i)) (then_this (Some step) s);
+      words = writing_goes_on rams₀ from (λ j. (up_to (suc j)).lit) i rams step.word h.words (omega (arith, r, b))
+          (adds_extended (up_to (suc i)) d₀ d' step (then_this (Some step) s)).lit;
     }
-      where
-        now : Extended at (up_to (suc i)) w₀ ws₀ t₀ w' ws' step
-        now = extended at (up_to (suc i)) w₀ ws₀ t₀ w' ws' step (then_this (Some step) s)
 
-    pub enabling_fails : Extends at (and_of (drafted ws so.tally) (get_or rams (from + i) 0) l) w ws so.tally w' ws' None → BitsDone at w₀ ws₀ t₀ from l rams₀ w' ws' rams None
+    pub enabling_fails : Adds (and_of (drivers_of d) (get_or rams (from + i) 0) l) d d' None → BitsDone d₀ from l rams₀ d' rams None
     enabling_fails s = record {
-      step = longer_full at (up_to (suc i)) w₀ ws₀ t₀ w' ws' (up_to 32) (bits_longer (drafted ws₀ t₀) l f (suc i) 32 (omega (arith, b))).longer (then_this None s);
+      step = adds_longer (up_to (suc i)) d₀ d' (up_to 32) (bits_longer (drivers_of d₀) l f (suc i) 32 (omega (arith, b))).longer (then_this None s);
       words = tt;
       long = h.words.long;
     }
 
 -- ---- the row
-module _ (n : Netlist) (c k at : ℕ) (w ws : List ℕ) (t : Tally) (read write : ℕ) (rams rams₁ rams₂ rams₃ w' ws' : List ℕ) (r : Option Added)
+module _ (n : Netlist) (c k : ℕ) (d : Draft) (read write : ℕ) (rams rams₁ rams₂ rams₃ : List ℕ) (d' : Draft) (r : Option Literal)
     (room : 123 * k + 123 ≤ length rams) (filled : Writing rams (123 * k) (plain_word n c) 123 rams₁) (e₂ : rams₂ ≡ set rams₁ (123 * k) read)
-    (h : BitsDone at w ws t (123 * k + 59) write rams₂ w' ws' rams₃ r) where
+    (h : BitsDone d (123 * k + 59) write rams₂ d' rams₃ r) where
   abbrev a : ℕ
   a = 123 * k
 
@@ -209,19 +198,19 @@ module _ (n : Netlist) (c k at : ℕ) (w ws : List ℕ) (t : Tally) (read write 
   enables_are i b = let e : a + 59 + i ≡ a + (59 + i) = omega arith in
       other₂ (a + 59 + i) (omega arith) ∙ ap (λ (x : ℕ). get_or rams₁ x 0) e ∙ filled.done (59 + i) (omega (arith, b))
 
-  same_to : (i : ℕ) → i ≤ 32 → bits_made (drafted ws t) write (λ j. get_or rams₂ (a + 59 + j) 0) i ≡ row_made n c (drafted ws t) write i
-  same_to i b = bits_same (drafted ws t) write (λ j. get_or rams₂ (a + 59 + j) 0) (enable_of n c) i (λ j b'. enables_are j (omega (arith, b, b')))
+  same_to : (i : ℕ) → i ≤ 32 → bits_made (drivers_of d) write (λ j. get_or rams₂ (a + 59 + j) 0) i ≡ row_made n c (drivers_of d) write i
+  same_to i b = bits_same (drivers_of d) write (λ j. get_or rams₂ (a + 59 + j) 0) (enable_of n c) i (λ j b'. enables_are j (omega (arith, b, b')))
 
   ge_leb : (x y : ℕ) → x ≤ y → (x ≤? y) ≡ true
   ge_leb x y b = by_test (x ≤? y) (λ z. z) (λ z. absurd (omega (arith, b, leb-false x y z)))
 
-  word_read : (j : ℕ) → j ≡ 0 → row_word n c (drafted ws t) read write j ≡ read
+  word_read : (j : ℕ) → j ≡ 0 → row_word n c (drivers_of d) read write j ≡ read
   unfolding row_word
   word_read j e = rw (eq-eqb j 0 e)
 
-  word_enable : (j : ℕ) → 59 ≤ j → j < 91 → row_word n c (drafted ws t) read write j ≡ (row_made n c (drafted ws t) write (suc (j - 59))).lit
+  word_enable : (j : ℕ) → 59 ≤ j → j < 91 → row_word n c (drivers_of d) read write j ≡ (row_made n c (drivers_of d) write (suc (j - 59))).lit
   unfolding row_word
-  word_enable j b d = rw (ne_eqb j 0 (λ e. absurd (omega (arith, e, b))), ge_leb 59 j b, lt-ltb j 91 d)
+  word_enable j b below = rw (ne_eqb j 0 (λ e. absurd (omega (arith, e, b))), ge_leb 59 j b, lt-ltb j 91 below)
 
   lt-leb : (x y : ℕ) → y < x → (x ≤? y) ≡ false
   lt-leb x y b = by_test (x ≤? y) (λ z. absurd (omega (arith, b, leb-true x y z))) (λ z. z)
@@ -229,31 +218,31 @@ module _ (n : Netlist) (c k at : ℕ) (w ws : List ℕ) (t : Tally) (read write 
   ge_ltb : (x y : ℕ) → y ≤ x → (x <? y) ≡ false
   ge_ltb x y b = by_test (x <? y) (λ z. absurd (omega (arith, b, ltb-true x y z))) (λ z. z)
 
-  word_low : (j : ℕ) → (j ≡ 0 → ⊥) → j < 59 → row_word n c (drafted ws t) read write j ≡ plain_word n c j
+  word_low : (j : ℕ) → (j ≡ 0 → ⊥) → j < 59 → row_word n c (drivers_of d) read write j ≡ plain_word n c j
   unfolding row_word
   word_low j ne b = rw (ne_eqb j 0 ne, lt-leb 59 j b)
 
-  word_high : (j : ℕ) → 91 ≤ j → row_word n c (drafted ws t) read write j ≡ plain_word n c j
+  word_high : (j : ℕ) → 91 ≤ j → row_word n c (drivers_of d) read write j ≡ plain_word n c j
   unfolding row_word
   word_high j b = rw (ne_eqb j 0 (λ e. absurd (omega (arith, e, b))), ge_leb 59 j (omega (arith, b)), ge_ltb j 91 b)
 
-  module _ (s : Writing rams₂ (a + 59) (λ i. (bits_made (drafted ws t) write (λ j. get_or rams₂ (a + 59 + j) 0) (suc i)).lit) 32 rams₃) where
-    at_zero : (j : ℕ) → j ≡ 0 → get_or rams₃ (a + j) 0 ≡ row_word n c (drafted ws t) read write j
+  module _ (s : Writing rams₂ (a + 59) (λ i. (bits_made (drivers_of d) write (λ j. get_or rams₂ (a + 59 + j) 0) (suc i)).lit) 32 rams₃) where
+    at_zero : (j : ℕ) → j ≡ 0 → get_or rams₃ (a + j) 0 ≡ row_word n c (drivers_of d) read write j
     at_zero j e = let q : a + j ≡ a = omega (arith, e) in
         ap (λ (x : ℕ). get_or rams₃ x 0) q ∙ s.before a (omega arith) ∙ ap (λ (x : List ℕ). get_or x a 0) e₂
         ∙ get_or-set_same rams₁ a read 0 (omega (arith, room, filled.long)) ∙ sym (word_read j e)
 
-    at_enable : (j : ℕ) → 59 ≤ j → j < 91 → get_or rams₃ (a + j) 0 ≡ row_word n c (drafted ws t) read write j
-    at_enable j b d = let q : a + j ≡ a + 59 + (j - 59) = omega (arith, b) in
-        ap (λ (x : ℕ). get_or rams₃ x 0) q ∙ s.done (j - 59) (omega (arith, b, d)) ∙ ap (λ (m : Made). m.lit) (same_to (suc (j - 59)) (omega (arith, b, d))) ∙ sym (word_enable j b d)
+    at_enable : (j : ℕ) → 59 ≤ j → j < 91 → get_or rams₃ (a + j) 0 ≡ row_word n c (drivers_of d) read write j
+    at_enable j b below = let q : a + j ≡ a + 59 + (j - 59) = omega (arith, b) in
+        ap (λ (x : ℕ). get_or rams₃ x 0) q ∙ s.done (j - 59) (omega (arith, b, below)) ∙ ap (λ (m : Made). m.lit) (same_to (suc (j - 59)) (omega (arith, b, below))) ∙ sym (word_enable j b below)
 
-    at_low : (j : ℕ) → (j ≡ 0 → ⊥) → j < 59 → get_or rams₃ (a + j) 0 ≡ row_word n c (drafted ws t) read write j
+    at_low : (j : ℕ) → (j ≡ 0 → ⊥) → j < 59 → get_or rams₃ (a + j) 0 ≡ row_word n c (drivers_of d) read write j
     at_low j ne b = s.before (a + j) (omega (arith, b)) ∙ other₂ (a + j) (λ e. ne (omega (arith, e))) ∙ filled.done j (omega (arith, b)) ∙ sym (word_low j ne b)
 
-    at_high : (j : ℕ) → 91 ≤ j → j < 123 → get_or rams₃ (a + j) 0 ≡ row_word n c (drafted ws t) read write j
-    at_high j b d = s.after (a + j) (omega (arith, b)) ∙ other₂ (a + j) (λ e. absurd (omega (arith, b, e))) ∙ filled.done j d ∙ sym (word_high j b)
+    at_high : (j : ℕ) → 91 ≤ j → j < 123 → get_or rams₃ (a + j) 0 ≡ row_word n c (drivers_of d) read write j
+    at_high j b below = s.after (a + j) (omega (arith, b)) ∙ other₂ (a + j) (λ e. absurd (omega (arith, b, e))) ∙ filled.done j below ∙ sym (word_high j b)
 
-    row_words_lem : Writing rams a (row_word n c (drafted ws t) read write) 123 rams₃
+    row_words_lem : Writing rams a (row_word n c (drivers_of d) read write) 123 rams₃
     row_words_lem = record {
       long = s.long ∙ ap length e₂ ∙ length-set rams₁ a read ∙ filled.long;
       done = λ j b. by_test (j == 0)
@@ -267,52 +256,43 @@ module _ (n : Netlist) (c k at : ℕ) (w ws : List ℕ) (t : Tally) (read write 
       after = λ j b. s.after j (omega (arith, b)) ∙ other₂ j (λ e. absurd (omega (arith, b, e))) ∙ filled.after j b;
     }
 
-  pub row_done : ClockedDone n c k at w ws t read write rams w' ws' rams₃ r
+  pub row_done : ClockedDone n c k d read write rams d' rams₃ r
   row_done = record {
-    step = subst (λ (m : Made). Extends at m w ws t w' ws' r) (same_to 32 (omega arith)) h.step;
-    row = OnSome_then r h.words row_words_lem;
+    step = subst (λ (m : Made). Adds m d d' r) (same_to 32 (omega arith)) h.step;
+    row = IfSome_then r h.words (λ _. row_words_lem);
     long = h.long ∙ ap length e₂ ∙ length-set rams₁ a read ∙ filled.long;
   }
 
-module _ (n : Netlist) (at : ℕ) (w ws : List ℕ) (t : Tally) (c k : ℕ) (rams w₁ ws₁ : List ℕ) where
+pub turned_keeps : (n : Netlist) (ds : List Driver) (c : ℕ) (b : Bool) → Keeps ds (turned b (clocks_made n ds c)).drivers
+turned_keeps n ds c true = keeps_trans (entry_keeps n ds (clock_at n c 0)) (entry_keeps n (entry_traced n ds (clock_at n c 0)).drivers (clock_at n c 1))
+turned_keeps n ds c false = keeps_trans (entry_keeps n ds (clock_at n c 0)) (entry_keeps n (entry_traced n ds (clock_at n c 0)).drivers (clock_at n c 1))
+
+module _ (n : Netlist) (d : Draft) (c k : ℕ) (rams : List ℕ) (d₁ : Draft) where
   abbrev x : Both
-  x = ram_clocks n (drafted ws t) c
+  x = ram_clocks n (drivers_of d) c
 
   abbrev m : Made
   m = start_at x.drivers x.second
 
-  pub ram_stops : Doubles at (ram_clocks n (drafted ws t) c) w ws t w₁ ws₁ None → RowDone n c k at w ws t rams w₁ ws₁ rams None
+  pub ram_stops : Doubles (ram_clocks n (drivers_of d) c) d d₁ None → RowDone n c k d rams d₁ rams None
   ram_stops h = record {
-    step = longer_full at m w ws t w₁ ws₁ (ram_made n (drafted ws t) c 32) (bits_longer x.drivers x.second (enable_of n c) 0 32 (omega arith)).longer h.step;
+    step = adds_longer m d d₁ (ram_made n (drivers_of d) c 32) (bits_longer x.drivers x.second (enable_of n c) 0 32 (omega arith)).longer h.step;
     row = tt;
     long = refl;
   }
 
-  module _ (clocks : Pair) (h : Doubles at (ram_clocks n (drafted ws t) c) w ws t w₁ ws₁ (Some clocks)) where
-    abbrev got : Added
-    got = record { lit = clocks.second; tally = clocks.tally }
+  module _ (clocks : Pair) (h : Doubles (ram_clocks n (drivers_of d) c) d d₁ (Some clocks)) where
+    pub ram_known : IsGoing n d → Known n d₁.work.now
+    ram_known g = known n d₁ (adds_going m d d₁ clocks.second h.step n g (turned_keeps n (drivers_of d) c (reads_first n.pins (clock_at n c 0))))
 
-    after : Extended at m w ws t w₁ ws₁ got
-    after = extended at m w ws t w₁ ws₁ got h.step
-
-    pub ram_ready : Table at w₁ ws₁ clocks.tally
-    ram_ready = after.table
-
-    pub ram_known : Going n at w ws t → Known n w₁
-    ram_known g = let g' : Ground n at w₁ = ground_after n at w g.grounded w₁ after.below in
-        record { accepted = g'.accepted; fits = g'.fits; wide = omega (arith, g'.below, g'.inside); written = g'.written }
-
-    pub ram_then : (w₂ ws₂ rams₂ : List ℕ) (r : Option Added) → ClockedDone n c k at w₁ ws₁ clocks.tally clocks.first.word clocks.second.word rams w₂ ws₂ rams₂ r
-        → RowDone n c k at w ws t rams w₂ ws₂ rams₂ r
-    ram_then w₂ ws₂ rams₂ r d = record {
-      step = goes_on at m w ws t w₁ ws₁ got after (ram_made n (drafted ws t) c 32) w₂ ws₂ r
-          (subst (λ (y : Made). Extends at y w₁ ws₁ clocks.tally w₂ ws₂ r) (ap₂ (λ (ds : List Driver) (y : ℕ). row_made n c ds y 32) after.drivers after.lit) d.step);
-      row = OnSome_then r d.row (subst (λ (g : ℕ → ℕ). Writing rams (123 * k) g 123 rams₂) words_are);
-      long = d.long;
+    pub ram_then : (d₂ : Draft) (rams₂ : List ℕ) (r : Option Literal) → ClockedDone n c k d₁ clocks.first.word clocks.second.word rams d₂ rams₂ r → RowDone n c k d rams d₂ rams₂ r
+    ram_then d₂ rams₂ r e = let after = adds_extended m d d₁ clocks.second h.step in record {
+      step = adds_goes_on m d d₁ clocks.second h.step (ram_made n (drivers_of d) c 32) d₂ r
+          (subst (λ (y : Made). Adds y d₁ d₂ r) (ap₂ (λ (ds : List Driver) (y : ℕ). row_made n c ds y 32) after.drivers after.lit) e.step);
+      row = IfSome_then r e.row (λ _. subst (λ (g : ℕ → ℕ). Writing rams (123 * k) g 123 rams₂)
+          (ap₂ (λ (ds : List Driver) (y : ℕ). row_word n c ds clocks.first.word y) after.drivers after.lit ∙ ap (λ (y : ℕ). row_word n c x.drivers y x.second) h.first));
+      long = e.long;
     }
-      where
-        words_are : row_word n c (drafted ws₁ clocks.tally) clocks.first.word clocks.second.word ≡ row_word n c x.drivers x.first x.second
-        words_are = ap₂ (λ (ds : List Driver) (y : ℕ). row_word n c ds clocks.first.word y) after.drivers after.lit ∙ ap (λ (y : ℕ). row_word n c x.drivers y x.second) h.first
 
 -- ---- where the row stands
 number_cases : (l : List ℕ) (x k : ℕ) → k ≡ number_in l x → ((k ≡ 0 → ⊥) → (0 < count x l) × (k - 1 ≡ place x l)) × (k ≡ 0 → count x l ≡ 0)
@@ -343,25 +323,24 @@ module _ (n : Netlist) (w : List ℕ) (c start end : ℕ) (k : Known n w) (l : c
   number-told ne r er = er ∙ ap (λ (i : ℕ). get_or w (6 * length n.list + i) 0) es
       ∙ k.written.ram_numbers c l kd (omega (arith, ne, es, ee, (laid n.kinds n.starts n.list n.pins n.nets k.fits).rise c long, ap (λ (i : ℕ). get_or n.starts i 0) (add-one c)))
 
-module _ (n : Netlist) (c number : ℕ) (e : number ≡ number_in (step2 n).rams c) where
-  module _ (t : Tally) (rams : List ℕ) where
-    pub begun_room : (number ≡ 0 → ⊥) → length (step2 n).rams ≤ t.rams → 123 * t.rams ≤ length rams → 123 * (number - 1) + 123 ≤ length rams
-    begun_room ne a b = let q = (number_cases (step2 n).rams c number e).0 ne in omega (arith, a, b, q.1, (place_at c (step2 n).rams q.0).0)
+module _ (n : Netlist) (c number : ℕ) (e : number ≡ number_in (step2 n).rams c) (d : Draft) (rams : List ℕ) where
+  pub begun_room : (number ≡ 0 → ⊥) → length (step2 n).rams ≤ d.tally.rams → 123 * d.tally.rams ≤ length rams → 123 * (number - 1) + 123 ≤ length rams
+  begun_room ne a b = let q = (number_cases (step2 n).rams c number e).0 ne in omega (arith, a, b, q.1, (place_at c (step2 n).rams q.0).0)
 
-  module _ (at : ℕ) (w ws : List ℕ) (t : Tally) (rams : List ℕ) where
-    pub begun_done : (w' ws' rams' : List ℕ) (r : Option Added) → (number ≡ 0 → ⊥) → RowDone n c (number - 1) at w ws t rams w' ws' rams' r → RamDone n c at w ws t rams w' ws' rams' r
-    begun_done w' ws' rams' r ne d = let q = (number_cases (step2 n).rams c number e).0 ne in begun q.0 (subst (λ (i : ℕ). RowDone n c i at w ws t rams w' ws' rams' r) q.1 d)
+  pub begun_done : (d' : Draft) (rams' : List ℕ) (r : Option Literal) → (number ≡ 0 → ⊥) → RowDone n c (number - 1) d rams d' rams' r → RamDone n c d rams d' rams' r
+  begun_done d' rams' r ne h = let q = (number_cases (step2 n).rams c number e).0 ne in begun q.0 (subst (λ (i : ℕ). RowDone n c i d rams d' rams' r) q.1 h)
 
-    module _ (z : number ≡ 0) where
-      absent : count c (step2 n).rams ≡ 0
-      absent = (number_cases (step2 n).rams c number e).1 z
+  module _ (z : number ≡ 0) where
+    absent : count c (step2 n).rams ≡ 0
+    absent = (number_cases (step2 n).rams c number e).1 z
 
-      pub fresh_short : length rams < 123 * t.rams + 123 → RamDone n c at w ws t rams w ws rams None
-      fresh_short l = short absent (omega (arith, l)) refl refl refl refl
+    pub fresh_short : length rams < 123 * d.tally.rams + 123 → RamDone n c d rams d rams None
+    fresh_short l = short absent (omega (arith, l)) refl (loans_refl d) refl refl refl
 
-      pub fresh_done : (more : Tally) (w' ws' rams' : List ℕ) (r : Option Added) → 123 * t.rams + 123 ≤ length rams → more ≡ ram_counted t → RowDone n c t.rams at w ws more rams w' ws' rams' r
-          → RamDone n c at w ws t rams w' ws' rams' r
-      fresh_done more w' ws' rams' r l em d = fresh absent (omega (arith, l)) (subst (λ (i : Tally). RowDone n c t.rams at w ws i rams w' ws' rams' r) em d)
+    pub fresh_done : (more : Tally) (d' : Draft) (rams' : List ℕ) (r : Option Literal) → 123 * d.tally.rams + 123 ≤ length rams → more ≡ ram_counted d.tally
+        → RowDone n c d.tally.rams (record d { tally = more }) rams d' rams' r → RamDone n c d rams d' rams' r
+    fresh_done more d' rams' r l em h = fresh absent (omega (arith, l)) (subst (λ (i : Tally). RowDone n c d.tally.rams (record d { tally = i }) rams d' rams' r) em h)
 
-pub going_more : (n : Netlist) (at : ℕ) (w ws : List ℕ) (t more : Tally) → Going n at w ws t → more ≡ ram_counted t → Going n at w ws more
-going_more n at w ws t more g e = subst (Going n at w ws) (sym e) (record { grounded = g.grounded; table = record { ready = g.table.ready; gates = g.table.gates; few = g.table.few }; keeps = g.keeps })
+pub going_more : (n : Netlist) (d : Draft) (more : Tally) → IsGoing n d → more ≡ ram_counted d.tally → IsGoing n (record d { tally = more })
+going_more n d more g e = subst (Going n d.at d.work.now d.drivers.now) (sym e)
+    (record { grounded = g.grounded; table = record { ready = g.table.ready; gates = g.table.gates; few = g.table.few }; keeps = g.keeps })

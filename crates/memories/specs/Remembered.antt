@@ -4,15 +4,15 @@ use Rattle.laws.specs.Tests.{◌<?◌, ◌≤?◌}
 use Rattle.laws.specs.Lists.{count}
 use Rattle.laws.proofs.Indices.{place}
 use Rattle.rules.specs.declared.Driver.{Driver}
-use Rattle.rules.specs.declared.Tally.{Tally}
+use Rattle.rules.specs.declared.Literal.{Literal}
 use Rattle.rules.specs.Netlist.{Netlist, #R_CLK, #W_CLK}
 use Rattle.rules.specs.Graph.{Made, and_of}
 use Rattle.rules.specs.Build.{step2}
 use Rattle.tallies.specs.Counted.{ram_counted}
 use Rattle.words.proofs.Tables.{Writing}
 use Rattle.roles.specs.Reading.{either_in, cell_pins, entry_of}
-use Rattle.drafts.specs.declared.Added.{Added}
-use Rattle.drafts.specs.Table.{drafted, Extends}
+use Rattle.drafts.specs.declared.Draft.{Draft}
+use Rattle.drafts.specs.Table.{drivers_of, SameLoans, Adds}
 use Rattle.activity.specs.Traced.{start_at, entry_traced}
 use Rattle.flops.specs.Flopped.{Both}
 use Rattle.rows.specs.Words.{plain_word}
@@ -48,9 +48,9 @@ abbrev pub bits_made : List Driver → ℕ → (ℕ → ℕ) → ℕ → Made
 bits_made ds w f zero = start_at ds w
 bits_made ds w f (suc i) = and_of (bits_made ds w f i).drivers (f i) w
 
-pub record BitsDone (at : ℕ) (w ws : List ℕ) (t : Tally) (from l : ℕ) (rams w' ws' rams' : List ℕ) (r : Option Added) : Type 0 where
-  pub step : Extends at (bits_made (drafted ws t) l (λ i. get_or rams (from + i) 0) 32) w ws t w' ws' r
-  pub words : OnSome r (Writing rams from (λ i. (bits_made (drafted ws t) l (λ j. get_or rams (from + j) 0) (suc i)).lit) 32 rams')
+pub record BitsDone (d : Draft) (from l : ℕ) (rams : List ℕ) (d' : Draft) (rams' : List ℕ) (r : Option Literal) : Type 0 where
+  pub step : Adds (bits_made (drivers_of d) l (λ i. get_or rams (from + i) 0) 32) d d' r
+  pub words : OnSome r (Writing rams from (λ i. (bits_made (drivers_of d) l (λ j. get_or rams (from + j) 0) (suc i)).lit) 32 rams')
   pub long : length rams' ≡ length rams
 
 -- ---- the row
@@ -66,9 +66,9 @@ unfoldable pub row_word : Netlist → ℕ → List Driver → ℕ → ℕ → �
 row_word n c ds read write j =
     if j == 0 then read else (if (59 ≤? j) && (j <? 91) then (row_made n c ds write (suc (j - 59))).lit else plain_word n c j)
 
-pub record ClockedDone (n : Netlist) (c k at : ℕ) (w ws : List ℕ) (t : Tally) (read write : ℕ) (rams w' ws' rams' : List ℕ) (r : Option Added) : Type 0 where
-  pub step : Extends at (row_made n c (drafted ws t) write 32) w ws t w' ws' r
-  pub row : OnSome r (Writing rams (123 * k) (row_word n c (drafted ws t) read write) 123 rams')
+pub record ClockedDone (n : Netlist) (c k : ℕ) (d : Draft) (read write : ℕ) (rams : List ℕ) (d' : Draft) (rams' : List ℕ) (r : Option Literal) : Type 0 where
+  pub step : Adds (row_made n c (drivers_of d) write 32) d d' r
+  pub row : OnSome r (Writing rams (123 * k) (row_word n c (drivers_of d) read write) 123 rams')
   pub long : length rams' ≡ length rams
 
 -- the clocks traced first
@@ -78,15 +78,19 @@ ram_made n ds c i = row_made n c (ram_clocks n ds c).drivers (ram_clocks n ds c)
 abbrev pub ram_word : Netlist → List Driver → ℕ → ℕ → ℕ
 ram_word n ds c j = row_word n c (ram_clocks n ds c).drivers (ram_clocks n ds c).first (ram_clocks n ds c).second j
 
-pub record RowDone (n : Netlist) (c k at : ℕ) (w ws : List ℕ) (t : Tally) (rams w' ws' rams' : List ℕ) (r : Option Added) : Type 0 where
-  pub step : Extends at (ram_made n (drafted ws t) c 32) w ws t w' ws' r
-  pub row : OnSome r (Writing rams (123 * k) (ram_word n (drafted ws t) c) 123 rams')
+pub record RowDone (n : Netlist) (c k : ℕ) (d : Draft) (rams : List ℕ) (d' : Draft) (rams' : List ℕ) (r : Option Literal) : Type 0 where
+  pub step : Adds (ram_made n (drivers_of d) c 32) d d' r
+  pub row : OnSome r (Writing rams (123 * k) (ram_word n (drivers_of d) c) 123 rams')
   pub long : length rams' ≡ length rams
 
+-- one RAM more is counted
+abbrev pub with_more : Draft → Draft
+with_more d = record d { tally = ram_counted d.tally }
+
 -- a row that step 2 has begun, a new one, or no room for a new one
-pub data RamDone (n : Netlist) (c at : ℕ) (w ws : List ℕ) (t : Tally) (rams w' ws' rams' : List ℕ) (r : Option Added) : Type 0 where
-  begun : 0 < count c (step2 n).rams → RowDone n c (place c (step2 n).rams) at w ws t rams w' ws' rams' r → RamDone n c at w ws t rams w' ws' rams' r
-  fresh : count c (step2 n).rams ≡ 0 → 123 * (t.rams + 1) ≤ length rams → RowDone n c t.rams at w ws (ram_counted t) rams w' ws' rams' r
-      → RamDone n c at w ws t rams w' ws' rams' r
-  short : count c (step2 n).rams ≡ 0 → length rams < 123 * (t.rams + 1) → r ≡ None → length w' ≡ length w → length ws' ≡ length ws → length rams' ≡ length rams
-      → RamDone n c at w ws t rams w' ws' rams' r
+pub data RamDone (n : Netlist) (c : ℕ) (d : Draft) (rams : List ℕ) (d' : Draft) (rams' : List ℕ) (r : Option Literal) : Type 0 where
+  begun : 0 < count c (step2 n).rams → RowDone n c (place c (step2 n).rams) d rams d' rams' r → RamDone n c d rams d' rams' r
+  fresh : count c (step2 n).rams ≡ 0 → 123 * (d.tally.rams + 1) ≤ length rams → RowDone n c d.tally.rams (with_more d) rams d' rams' r
+      → RamDone n c d rams d' rams' r
+  short : count c (step2 n).rams ≡ 0 → length rams < 123 * (d.tally.rams + 1) → r ≡ None → SameLoans d d' → length d'.work.now ≡ length d.work.now
+      → length d'.drivers.now ≡ length d.drivers.now → length rams' ≡ length rams → RamDone n c d rams d' rams' r

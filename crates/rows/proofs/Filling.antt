@@ -11,7 +11,7 @@ use borrow.Author.Tests.{eq-eqb, ne_eqb, lt-ltb, ltb-true}
 use Rattle.laws.proofs.Tests.{by_test}
 use Rattle.std.specs.Prelude.{Option, Some, None, ◌==◌}
 use Rattle.laws.specs.Tests.{◌<?◌}
-use Rattle.laws.specs.Lists.{count, keep}
+use Rattle.laws.specs.Lists.{keep}
 use Rattle.laws.specs.Words.{part}
 use Rattle.laws.proofs.Words.{part_length, part_at}
 use Rattle.rules.specs.Netlist.{Netlist, named_bit, #R_ADDR, #R_DATA, #W_ADDR, #W_DATA, #W_EN}
@@ -20,9 +20,10 @@ use Rattle.words.proofs.Tables.{Writing, writing_goes_on}
 use Rattle.roles.specs.Reading.{Held, entry_of}
 use Rattle.roles.proofs.Entries.{cell_held, entry_first, entry_none}
 use Rattle.roles.proofs.Fitting.{laid}
+use Rattle.literals.proofs.Settling.{first_some, first_none}
 use Rattle.activity.specs.Traced.{lits}
+use Rattle.activity.proofs.Tracing.{entry_in}
 use Rattle.flops.specs.Flopped.{Known}
-use Rattle.flops.proofs.Flopping.{first_entry, no_entry}
 use Rattle.rows.specs.Words.{has_bit, bit_lit, plain_word}
 
 -- ---- one pin
@@ -102,20 +103,17 @@ module _ (n : Netlist) (w : List ℕ) (c from end : ℕ) (k : Known n w) (l : c 
     by_bit = h ∙ ap₂ (λ (x y : ℕ). entry_of (keep (has_bit n.pins name bit) (take (y - x) (drop x n.list))) 0) ef ee
 
     module _ (p : ℕ) (e : found ≡ Some p) where
-      both : (0 < count p (named_bit n c name bit)) × (lits n p ≡ bit_lit n c name bit)
-      both = first_entry (named_bit n c name bit) p (sym by_bit ∙ e) 0 (lits n)
-
       inside : p < length n.list
-      inside = in_keep n k.accepted.tables (has_bit n.pins name bit) c p l both.0
+      inside = in_keep n k.accepted.tables (has_bit n.pins name bit) c p l (entry_in (named_bit n c name bit) 0 p (sym by_bit ∙ e))
 
       pub bit_place : 7 * length n.list + p < length w
       bit_place = omega (arith, inside, k.wide)
 
       pub bit-told : (r : ℕ) → r ≡ get_or w (7 * length n.list + p) 0 → r ≡ bit_lit n c name bit
-      bit-told r er = er ∙ k.written.lits p inside ∙ both.1
+      bit-told r er = er ∙ k.written.lits p inside ∙ first_some 0 (lits n) (named_bit n c name bit) p (sym e ∙ by_bit)
 
     pub bit-none : found ≡ None → 0 ≡ bit_lit n c name bit
-    bit-none e = no_entry (named_bit n c name bit) (sym by_bit ∙ e) 0 (lits n)
+    bit-none e = first_none 0 (lits n) (named_bit n c name bit) (sym e ∙ by_bit)
 
 -- ---- a word of the row
 module _ (m : Netlist) (c j : ℕ) where

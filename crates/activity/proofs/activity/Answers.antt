@@ -9,4 +9,7 @@ pub through_all-requires-clause-gates_value : goal.through_all-requires-clause-g
 through_all-requires-clause-gates_value c = record { is = search (gates_told, c.requires.going, c.requires.clocked) }
 
 pub returns : goal.returns
-returns c = search (activity_told, c.requires.going, c.requires.clocked)
+returns c = record {
+  loans = c.through_all.ensures.loans;
+  extends = activity_told _ _ _ _ _ _ _ c.requires.going c.requires.clocked c.trace_clock_pin-walk.ensures _ c.end_lit-lit.ensures _ _ _ c.through_all.ensures.extends;
+}

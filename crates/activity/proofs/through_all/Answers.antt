@@ -1,20 +1,18 @@
-use mathlib.Core.Path.{refl}
-use native.Mathlib.Omega.{arith}
 use borrow.Author.Rules.{rules}
-use Rattle.activity.proofs.Tracing.{passing_begins, passing_next, passing_ends, passing_goes_on, passing_fails}
+use Rattle.activity.proofs.Tracing.{passing_next, walk_begins, walk_going, walk_ends, walk_goes_on, walk_fails}
 use Rattle.activity.proofs.through_all.Goals as goal
 
 pub loop-i-init : goal.loop-i-init
-loop-i-init c = (search passing_begins, refl, refl)
+loop-i-init c = search walk_begins
 
 pub through-requires : goal.through-requires
-through-requires c = record { going = search rules; clocked = search rules; i_in_bounds = search (passing_next, c.requires.gates_value.is) }
+through-requires c = let i = c.loop-i.invariant in record { going = search walk_going; clocked = search rules; i_in_bounds = search (passing_next, i.passing, c.requires.gates_value.is) }
 
-pub returns-in_err-step : goal.returns-in_err-step
-returns-in_err-step c = rw c.from_residual.ensures (passing_fails _ _ _ _ _ _ _ _ _ _ _ c.loop-i.invariant.0 _ c.requires.gates_value.is _ _ (omega arith) c.in_err-step.ensures)
+pub returns-in_err-lit : goal.returns-in_err-lit
+returns-in_err-lit c = rw c.from_residual.ensures (search (walk_fails, c.in_err-lit.ensures, c.requires.gates_value.is))
 
 pub loop-i-preserved : goal.loop-i-preserved
-loop-i-preserved c = (search (passing_goes_on, c.in_ok-step.ensures, c.requires.gates_value.is), omega arith, omega arith)
+loop-i-preserved c = search (walk_goes_on, c.in_ok-lit.ensures, c.requires.gates_value.is)
 
 pub returns : goal.returns
-returns c = search (passing_ends, c.requires.gates_value.is)
+returns c = search (walk_ends, c.requires.gates_value.is)

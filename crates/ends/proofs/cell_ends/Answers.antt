@@ -18,7 +18,7 @@ pub returns-in-11 : goal.returns-in-11
 returns-in-11 c = let a = c.args in remembered (kind_ram (netlist_in a.n) a.cell c.in-11.is) c.memory.ensures refl
 
 pub returns-in_default : goal.returns-in_default
-returns-in_default c = let a = c.args in cell_passed (netlist_in a.n) a.cell _ _ _ _ _ _ _ (λ e. omega arith) (λ e. omega arith) (λ e. omega arith)
+returns-in_default c = let a = c.args in cell_passed (netlist_in a.n) a.cell a.draft.now _ _ _ (λ e. omega arith) (λ e. omega arith) (λ e. omega arith)
 
 pub returns-in_default-2 : goal.returns-in_default-2
-returns-in_default-2 c = let a = c.args in cell_passed (netlist_in a.n) a.cell _ _ _ _ _ _ _ (λ e. omega arith) (λ e. omega arith) (λ e. omega arith)
+returns-in_default-2 c = let a = c.args in cell_passed (netlist_in a.n) a.cell a.draft.now _ _ _ (λ e. omega arith) (λ e. omega arith) (λ e. omega arith)

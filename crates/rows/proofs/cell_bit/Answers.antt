@@ -7,8 +7,8 @@ overflow_sub-count c = search (from_below, c.requires.known, c.requires.cell_in_
 pub entry_bit-found-requires : goal.entry_bit-found-requires
 entry_bit-found-requires c = search (list_held, c.requires.known, c.requires.cell_in_bounds)
 
-pub word-requires : goal.word-requires
-word-requires c = search (bit_place, c.requires.known, c.requires.cell_in_bounds, c.word-from.ensures, c.word-end.ensures, c.entry_bit-found.ensures)
+pub literal_at-requires : goal.literal_at-requires
+literal_at-requires c = search (bit_place, c.requires.known, c.requires.cell_in_bounds, c.word-from.ensures, c.word-end.ensures, c.entry_bit-found.ensures)
 
 pub returns-in-Some : goal.returns-in-Some
 returns-in-Some c = search (bit-told, c.requires.known, c.requires.cell_in_bounds, c.word-from.ensures, c.word-end.ensures, c.entry_bit-found.ensures)
