@@ -16,9 +16,12 @@ use Rattle.rules.specs.Refusals.{room_fits}
 use Rattle.rules.proofs.Tables.{clash}
 use Rattle.roles.specs.Reading.{tables}
 use Rattle.drivers.proofs.Rows.{drivers_long_lem}
-use Rattle.drafts.specs.Table.{Table}
-use Rattle.visits.specs.Drafting.{Drafting, Listed, Over, pins_over, outputs_over, dffs_over, rams_over, Moved, moved, stuck}
-use Rattle.ends.specs.Ended.{EndsDone, done, no_pins, no_rams, all_records, all_rows}
+use Rattle.drafts.specs.declared.Draft.{Draft}
+use Rattle.drafts.specs.Table.{Table, counted}
+use Rattle.activity.specs.Traced.{Going, IsGoing}
+use Rattle.visits.specs.Drafting.{Drafting, Listed, Over, pins_over, outputs_over, dffs_over, rams_over, Moved, moved, stuck, Moves}
+use Rattle.ends.specs.Ended.{EndsDone, done, no_pins, no_rams, all_records, all_rows, AddsEnds}
+use Rattle.ends.proofs.Ending.{going_begins}
 use Rattle.results.proofs.Counts.{tally-kept}
 use Rattle.results.proofs.Rooms as rooms
 use Rattle.draws.specs.Drawing.{Empty, empty, Undrawn, undrawn, Drawn, drawn, no_room}
@@ -59,7 +62,7 @@ module _ (kinds starts list pins nets : List ℕ) (rm : Rooms) (w ws os fs rs : 
   rams_long = ap length rams_are ∙ zeros-length (123 * rm.rams)
 
   module _ (w₁ ws₁ os₁ : List ℕ) where
-    pub graph_full : Moved (tables kinds starts list pins nets) rm (step2 (tables kinds starts list pins nets)) w ws os w₁ ws₁ os₁ None
+    graph_full : Moved (tables kinds starts list pins nets) rm (step2 (tables kinds starts list pins nets)) w ws os w₁ ws₁ os₁ None
         → Drawn (tables kinds starts list pins nets) rm w ws os fs rs w₁ ws₁ os₁ fs rs None
     graph_full (moved x e d ls l) = let q : None ≡ Some x = e in clash (cc)
     graph_full (stuck a o l lws los) = no_room refl (over-refused n rm o) l lws los refl refl
@@ -94,8 +97,14 @@ module _ (kinds starts list pins nets : List ℕ) (rm : Rooms) (w ws os fs rs : 
           from (empty f a c s z o l) = ap length outs_listed.words ∙ filled-length (step2 n).outs rm.outputs outs_listed.fits
               ∙ sym (ap length o ∙ zeros-length rm.outputs)
 
+      graph_going : Going (tables kinds starts list pins nets) (8 * length list + 2 * rm.pins + 2) w₁ ws₁ t
+      graph_going = from is_empty
+        where
+          from : Empty n rm w ws os → Going n (8 * length list + 2 * rm.pins + 2) w₁ ws₁ t
+          from (empty f a c s z o l) = going_begins n rm.pins w₁ ws₁ t a f (omega (arith, l, work_long_lem)) draft.table draft.drivers draft.written draft.flags
+
       module _ (at : ℕ) (ea : at ≡ 8 * length list + 2 * rm.pins + 2) where
-        pub graph_drawn : (w₂ ws₂ fs₂ rs₂ : List ℕ) (r : Option Tally) → EndsDone (tables kinds starts list pins nets) at w₁ ws₁ t fs rs w₂ ws₂ fs₂ rs₂ r
+        graph_drawn : (w₂ ws₂ fs₂ rs₂ : List ℕ) (r : Option Tally) → EndsDone (tables kinds starts list pins nets) at w₁ ws₁ t fs rs w₂ ws₂ fs₂ rs₂ r
             → Drawn (tables kinds starts list pins nets) rm w ws os fs rs w₂ ws₂ os₁ fs₂ rs₂ r
         graph_drawn w₂ ws₂ fs₂ rs₂ r (no_pins e l lw lws lf lr) =
             no_room e (rooms.drivers_over n rm (omega (arith, l, draft.long))) (lw ∙ work_long_lem) (lws ∙ table_long) outputs_long lf lr
@@ -108,3 +117,25 @@ module _ (kinds starts list pins nets : List ℕ) (rm : Rooms) (w ws os fs rs : 
             (tally-kept n x (ap length (sym dr) ∙ drivers_long_lem ws₂ x.pins) (tb.gates ∙ ap gate_count dr)
             (to ∙ draft.outputs) (td ∙ draft.dffs) tr)
             (sb.long ∙ work_long_lem) (lws ∙ table_long)
+
+-- ---- the same of a draft, whose tables go back to the caller
+module _ (kinds starts list pins nets : List ℕ) (rm : Rooms) (os fs rs : List ℕ) (d d₁ : Draft) (os₁ : List ℕ)
+    (u : Undrawn (tables kinds starts list pins nets) rm d.work.now d.drivers.now os fs rs) where
+  pub draft_full : Moves (tables kinds starts list pins nets) rm (step2 (tables kinds starts list pins nets)) d os d₁ os₁ None → (w' ws' : List ℕ) → w' ≡ d₁.work.now → ws' ≡ d₁.drivers.now
+      → Drawn (tables kinds starts list pins nets) rm d.work.now d.drivers.now os fs rs w' ws' os₁ fs rs None
+  draft_full m w' ws' ew es = subst (λ (x : List ℕ). Drawn (tables kinds starts list pins nets) rm d.work.now d.drivers.now os fs rs x ws' os₁ fs rs None) (sym ew)
+      (subst (λ (x : List ℕ). Drawn (tables kinds starts list pins nets) rm d.work.now d.drivers.now os fs rs d₁.work.now x os₁ fs rs None) (sym es)
+      (graph_full kinds starts list pins nets rm d.work.now d.drivers.now os fs rs u d₁.work.now d₁.drivers.now os₁ m.moved))
+
+  module _ (m : Moves (tables kinds starts list pins nets) rm (step2 (tables kinds starts list pins nets)) d os d₁ os₁ (Some tt)) (ea : d.at ≡ 8 * length list + 2 * rm.pins + 2) where
+    pub draft_going : IsGoing (tables kinds starts list pins nets) d₁
+    draft_going = subst (λ (x : ℕ). Going (tables kinds starts list pins nets) x d₁.work.now d₁.drivers.now d₁.tally) (sym (m.loans.place ∙ ea))
+        (graph_going kinds starts list pins nets rm d.work.now d.drivers.now os fs rs u d₁.work.now d₁.drivers.now os₁ d₁.tally m.moved)
+
+    pub draft_drawn : (d₂ : Draft) (fs₂ rs₂ : List ℕ) (r : Option (Unit {0})) → AddsEnds (tables kinds starts list pins nets) d₁ fs rs d₂ fs₂ rs₂ r → (w' ws' : List ℕ) → w' ≡ d₂.work.now → ws' ≡ d₂.drivers.now
+        → Drawn (tables kinds starts list pins nets) rm d.work.now d.drivers.now os fs rs w' ws' os₁ fs₂ rs₂ (counted r d₂.tally)
+    draft_drawn d₂ fs₂ rs₂ r a w' ws' ew es =
+        subst (λ (x : List ℕ). Drawn (tables kinds starts list pins nets) rm d.work.now d.drivers.now os fs rs x ws' os₁ fs₂ rs₂ (counted r d₂.tally)) (sym ew)
+        (subst (λ (x : List ℕ). Drawn (tables kinds starts list pins nets) rm d.work.now d.drivers.now os fs rs d₂.work.now x os₁ fs₂ rs₂ (counted r d₂.tally)) (sym es)
+        (graph_drawn kinds starts list pins nets rm d.work.now d.drivers.now os fs rs u d₁.work.now d₁.drivers.now os₁ d₁.tally m.moved d₁.at (m.loans.place ∙ ea)
+        d₂.work.now d₂.drivers.now fs₂ rs₂ (counted r d₂.tally) a.ends))

@@ -25,19 +25,18 @@ use Rattle.gates.specs.Step.{Ready}
 use Rattle.gates.proofs.Steps.{ready_start}
 use Rattle.orders.specs.State.{event_of, events_of}
 use Rattle.builds.proofs.Tallies.{step2_keeps}
-use Rattle.drafts.specs.Table.{Table}
+use Rattle.drafts.specs.declared.Draft.{Draft}
+use Rattle.drafts.specs.Table.{Table, counted}
 use Rattle.drafts.specs.Layout.{Flags}
-use Rattle.flags.specs.Flagging.{Flagged, Blank}
+use Rattle.drafts.proofs.Drafting.{loans_trans}
+use Rattle.flags.specs.Flagging.{Flagged, Blank, IsBlank, AddsFlags}
 use Rattle.flags.specs.Flagging as flags
 use Rattle.flags.proofs.Passing.{Kept, kept}
 use Rattle.prepares.specs.Prepared.{Cleared}
-use Rattle.visits.specs.Drafting.{Drafting, Listed, pins_over, Moved, moved, stuck, Visiting, visiting, event_at, state_at}
+use Rattle.visits.specs.Drafting.{Drafting, Listed, pins_over, Moved, moved, stuck, Visiting, visiting, event_at, state_at, IsVisiting, Moves}
 use Rattle.visits.proofs.Places.{number_empty, start-below}
 use Rattle.visits.proofs.Holding.{dff_listed}
-use Rattle.draws.specs.Drawing.{Empty, empty}
-
-abbrev pub no_tally : Tally
-no_tally = record { pins = 0; gates = 0; outputs = 0; dffs = 0; rams = 0 }
+use Rattle.draws.specs.Drawing.{Empty, empty, no_tally, IsEmpty}
 
 -- ---- pin 0 alone
 zero_holds : (r : ℕ) → Holds (zeros (3 * (r + 1))) (Constant ∷ [])
@@ -81,7 +80,7 @@ module _ (kinds starts list pins nets : List ℕ) (rm : Rooms) (w ws os : List �
   m = length list
 
   module _ (at : ℕ) (ea : at ≡ 8 * length list + 2 * rm.pins + 2) where
-    pub empty_blank : Blank (length list) at w ws no_tally
+    empty_blank : Blank (length list) at w ws no_tally
     empty_blank = from e
       where
         from : Empty n rm w ws os → Blank (length list) at w ws no_tally
@@ -110,7 +109,7 @@ module _ (kinds starts list pins nets : List ℕ) (rm : Rooms) (w ws os : List �
             alone = holds_drivers ws (Constant ∷ []) 0 holds refl
 
     module _ (w₁ ws₁ : List ℕ) where
-      pub pins_full : Flagged (length list) at (step1 (tables kinds starts list pins nets)) w ws no_tally w₁ ws₁ None
+      pins_full : Flagged (length list) at (step1 (tables kinds starts list pins nets)) w ws no_tally w₁ ws₁ None
           → Moved (tables kinds starts list pins nets) rm (step2 (tables kinds starts list pins nets)) w ws os w₁ ws₁ os None
       pins_full g = from e g
         where
@@ -119,7 +118,7 @@ module _ (kinds starts list pins nets : List ℕ) (rm : Rooms) (w ws os : List �
           from (empty f a c s z o l) (flags.full x b d k) =
               stuck refl (pins_over (omega (arith, b, ap length z, zeros-length (3 * (rm.pins + 1)), (step2_keeps n).longer))) d k refl
 
-      pub pins_begun : (t : Tally) → Flagged (length list) at (step1 (tables kinds starts list pins nets)) w ws no_tally w₁ ws₁ (Some t)
+      pins_begun : (t : Tally) → Flagged (length list) at (step1 (tables kinds starts list pins nets)) w ws no_tally w₁ ws₁ (Some t)
           → Visiting (tables kinds starts list pins nets) rm w₁ ws₁ os t at 0
       pins_begun t g = from e (kept (length list) at (step1 n) w ws no_tally w₁ ws₁ t g)
         where
@@ -161,7 +160,7 @@ module _ (kinds starts list pins nets : List ℕ) (rm : Rooms) (w ws os : List �
                 flags = subst (Flags (length list) w₁) g.drivers g.state.flags;
               }
 
-      pub pins_done : (t : Tally) → Flagged (length list) at (step1 (tables kinds starts list pins nets)) w ws no_tally w₁ ws₁ (Some t) → (w₂ ws₂ os₂ : List ℕ) (r : Option Tally)
+      pins_done : (t : Tally) → Flagged (length list) at (step1 (tables kinds starts list pins nets)) w ws no_tally w₁ ws₁ (Some t) → (w₂ ws₂ os₂ : List ℕ) (r : Option Tally)
           → Moved (tables kinds starts list pins nets) rm (step2 (tables kinds starts list pins nets)) w₁ ws₁ os w₂ ws₂ os₂ r
           → Moved (tables kinds starts list pins nets) rm (step2 (tables kinds starts list pins nets)) w ws os w₂ ws₂ os₂ r
       pins_done t g w₂ ws₂ os₂ r v = from (kept (length list) at (step1 n) w ws no_tally w₁ ws₁ t g) v
@@ -169,3 +168,33 @@ module _ (kinds starts list pins nets : List ℕ) (rm : Rooms) (w ws os : List �
           from : Kept (length list) at (step1 n) w ws no_tally w₁ ws₁ t → Moved n rm (step2 n) w₁ ws₁ os w₂ ws₂ os₂ r → Moved n rm (step2 n) w ws os w₂ ws₂ os₂ r
           from g (moved x a c l y) = moved x a c l (y ∙ g.only.long)
           from g (stuck a c l y z) = stuck a c (l ∙ g.only.long) (y ∙ g.long) z
+
+-- ---- the same of a draft
+module _ (kinds starts list pins nets : List ℕ) (rm : Rooms) (d : Draft) (os : List ℕ) (e : IsEmpty (tables kinds starts list pins nets) rm d os) where
+  pub draft_blank : IsBlank (length list) d
+  draft_blank = subst (Blank (length list) d.at d.work.now d.drivers.now) (sym e.none) (empty_blank kinds starts list pins nets rm d.work.now d.drivers.now os e.tables d.at e.place)
+
+  module _ (d₁ : Draft) where
+    none : (r : Option (Unit {0})) → AddsFlags (length list) (step1 (tables kinds starts list pins nets)) d d₁ r
+        → Flagged (length list) d.at (step1 (tables kinds starts list pins nets)) d.work.now d.drivers.now no_tally d₁.work.now d₁.drivers.now (counted r d₁.tally)
+    none r a = subst (λ (t : Tally). Flagged (length list) d.at (step1 (tables kinds starts list pins nets)) d.work.now d.drivers.now t d₁.work.now d₁.drivers.now (counted r d₁.tally)) e.none a.flagged
+
+    pub draft_full : AddsFlags (length list) (step1 (tables kinds starts list pins nets)) d d₁ None
+        → Moves (tables kinds starts list pins nets) rm (step2 (tables kinds starts list pins nets)) d os d₁ os None
+    draft_full a = record {
+      loans = a.loans;
+      moved = pins_full kinds starts list pins nets rm d.work.now d.drivers.now os e.tables d.at e.place d₁.work.now d₁.drivers.now (none None a);
+    }
+
+    module _ (a : AddsFlags (length list) (step1 (tables kinds starts list pins nets)) d d₁ (Some tt)) where
+      pub draft_begun : IsVisiting (tables kinds starts list pins nets) rm d₁ os 0
+      draft_begun = subst (λ (x : ℕ). Visiting (tables kinds starts list pins nets) rm d₁.work.now d₁.drivers.now os d₁.tally x 0) (sym a.loans.place)
+          (pins_begun kinds starts list pins nets rm d.work.now d.drivers.now os e.tables d.at e.place d₁.work.now d₁.drivers.now d₁.tally (none (Some tt) a))
+
+      pub draft_done : (d₂ : Draft) (os₂ : List ℕ) (r : Option (Unit {0})) → Moves (tables kinds starts list pins nets) rm (step2 (tables kinds starts list pins nets)) d₁ os d₂ os₂ r
+          → Moves (tables kinds starts list pins nets) rm (step2 (tables kinds starts list pins nets)) d os d₂ os₂ r
+      draft_done d₂ os₂ r m = record {
+        loans = loans_trans a.loans m.loans;
+        moved = pins_done kinds starts list pins nets rm d.work.now d.drivers.now os e.tables d.at e.place d₁.work.now d₁.drivers.now d₁.tally (none (Some tt) a)
+            d₂.work.now d₂.drivers.now os₂ (counted r d₂.tally) m.moved;
+      }

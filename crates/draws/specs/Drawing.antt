@@ -8,6 +8,7 @@ use Rattle.rules.specs.Build.{step2, step3, graph_of, tally}
 use Rattle.rules.specs.Refusals.{Accepted, room_fits}
 use Rattle.roles.specs.Reading.{Fits}
 use Rattle.prepares.specs.Prepared.{Cleared}
+use Rattle.drafts.specs.declared.Draft.{Draft}
 use Rattle.drafts.specs.Table.{Table, drafted}
 use Rattle.drafts.specs.Layout.{index_at}
 use Rattle.ends.specs.Ended.{all_records, all_rows}
@@ -17,6 +18,15 @@ use Rattle.visits.specs.Drafting.{Sized}
 pub data Empty (n : Netlist) (rm : Rooms) (w ws os : List ℕ) : Type 0 where
   empty : Fits n → Accepted n → Cleared n w → Sized (size n) rm → ws ≡ zeros (3 * (rm.pins + 1)) → os ≡ zeros rm.outputs → 8 * size n + 8 * rm.pins + 1024 ≤ length w
       → Empty n rm w ws os
+
+abbrev pub no_tally : Tally
+no_tally = record { pins = 0; gates = 0; outputs = 0; dffs = 0; rams = 0 }
+
+-- the same of a draft, which counts nothing yet
+pub record IsEmpty (n : Netlist) (rm : Rooms) (d : Draft) (os : List ℕ) : Type 0 where
+  pub tables : Empty n rm d.work.now d.drivers.now os
+  pub place : d.at ≡ index_at (size n) rm.pins
+  pub none : d.tally ≡ no_tally
 
 -- the same with the tables of records, and a number of cells within its bound
 pub data Undrawn (n : Netlist) (rm : Rooms) (w ws os fs rs : List ℕ) : Type 0 where

@@ -4,9 +4,10 @@
 ghost use Rattle.std.specs.Prelude.{◌≡◌};
 ghost use Rattle.rules.specs.Build.{step2};
 ghost use Rattle.rules.specs.Tables.{netlist_in};
-ghost use Rattle.visits.specs.Drafting.{Moved};
-ghost use Rattle.draws.specs.Drawing.{Empty, Undrawn, Drawn};
+ghost use Rattle.visits.specs.Drafting.{Moves};
+ghost use Rattle.draws.specs.Drawing.{IsEmpty, Undrawn, Drawn};
 
+use drafts::Draft;
 use ends::record_ends;
 use flags::clock_flags;
 use rules::{NetlistTables, Rooms, Tally};
@@ -15,25 +16,15 @@ use visits::visit_pins;
 // Steps 1 and 2: the pins, the literals and the outputs.
 pub fn make_pins(
     n: NetlistTables,
-    drivers: &mut [u32],
-    work: &mut [u32],
+    draft: &mut Draft,
     outputs: &mut [u32],
     rooms: Rooms,
-) -> Option<Tally>
-    requires { Empty (netlist_in n) rooms work.old drivers.old outputs.old }
-    ensures { Moved (netlist_in n.entry) rooms (step2 (netlist_in n.entry)) work.old drivers.old outputs.old work.new drivers.new outputs.new result }
+) -> Option<()>
+    requires { IsEmpty (netlist_in n) rooms draft.old outputs.old }
+    ensures { Moves (netlist_in n.entry) rooms (step2 (netlist_in n.entry)) draft.old outputs.old draft.new outputs.new result }
 {
-    let room = rooms.pins as usize;
-    let at = 8 * n.list.len() + 2 * room + 2;
-    let none = Tally {
-        pins: 0,
-        gates: 0,
-        outputs: 0,
-        dffs: 0,
-        rams: 0,
-    };
-    let tally = clock_flags(n, drivers, work, at, none)?;
-    visit_pins(n, drivers, work, outputs, at, rooms, tally)
+    clock_flags(n, draft)?;
+    visit_pins(n, draft, outputs, rooms)
 }
 
 // All three: the driver table, the outputs and the records, and in the work words the literals.
@@ -49,8 +40,22 @@ pub fn make_graph(
     requires { Undrawn (netlist_in n) rooms work.old drivers.old outputs.old dffs.old rams.old }
     ensures { Drawn (netlist_in n.entry) rooms work.old drivers.old outputs.old dffs.old rams.old work.new drivers.new outputs.new dffs.new rams.new result }
 {
-    let tally = make_pins(n, drivers, work, outputs, rooms)?;
     let room = rooms.pins as usize;
     let at = 8 * n.list.len() + 2 * room + 2;
-    record_ends(n, drivers, work, dffs, rams, at, tally)
+    let tally = Tally {
+        pins: 0,
+        gates: 0,
+        outputs: 0,
+        dffs: 0,
+        rams: 0,
+    };
+    let mut draft = Draft {
+        drivers,
+        work,
+        at,
+        tally,
+    };
+    make_pins(n, &mut draft, outputs, rooms)?;
+    record_ends(n, &mut draft, dffs, rams)?;
+    Some(draft.tally)
 }
