@@ -30,13 +30,15 @@ use Rattle.builds.proofs.Steps.{flag_of_grows}
 use Rattle.clocks.specs.declared.WalkEnd.{WalkEnd}
 use Rattle.clocks.specs.declared.WalkEnd.TheVariants.{Still, Root, Strange, Far}
 use Rattle.clocks.specs.declared.Walked.{Walked}
-use Rattle.clocks.specs.Walks.{Span, told}
+use Rattle.roles.proofs.Fitting.{laid, entry_inside}
+use Rattle.clocks.specs.Walks.{told}
+use Rattle.clocks.proofs.Numbering.{ends_behind}
 use Rattle.drafts.specs.declared.Draft.{Draft}
 use Rattle.drafts.specs.Table.{drafted, SameEnds, drivers_of, counted}
 use Rattle.drafts.specs.Layout.{flag_word}
 use Rattle.drafts.proofs.Steps.{ends_refl, ends_trans}
 use Rattle.drafts.proofs.Drafting.{loans_refl, loans_trans}
-use Rattle.flags.specs.Flagging.{Flagging, FlagsOnly, Flagged, made, full, PortWithin, flag_at, flag_if, flags_of, IsFlagging, IsBlank, AddsFlags}
+use Rattle.flags.specs.Flagging.{Span, Flagging, FlagsOnly, Flagged, made, full, PortWithin, flag_at, flag_if, flags_of, IsFlagging, IsBlank, AddsFlags}
 use Rattle.flags.proofs.Words.{edge_le, word_alone}
 use Rattle.flags.proofs.Making.{only_refl, only_trans}
 use Rattle.flags.proofs.Roots.{flag_end, root_within}
@@ -281,3 +283,11 @@ module _ (kinds starts list pins nets : List ℕ) where
       cells_stop s = subst (λ (ds : List Driver). AddsFlags (length list) ds d₀ d₁ None) final
           (passing_stops g (length list) (upto (length kinds)) d₀ d c p (omega (arith, l, length-upto (length kinds))) d₁
           (longer_cell (tables kinds starts list pins nets)) (there None s))
+
+-- the list of a cell
+module _ (kinds starts list pins nets : List ℕ) (c : ℕ) (f : Fits (tables kinds starts list pins nets)) (lc : c < length kinds) where
+  pub cell_span : Span list (get_or starts c 0) (get_or starts (c + 1) 0 - get_or starts c 0)
+  cell_span = record {
+    fits = omega (arith, ends_behind kinds starts list pins nets c f lc, (laid kinds starts list pins nets f).within (c + 1) (omega (arith, f.starts_long)));
+    below = λ i l. entry_inside kinds starts list pins nets f c i lc l;
+  }

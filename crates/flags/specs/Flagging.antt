@@ -1,5 +1,5 @@
 -- Step 1 over the driver table and the work words: the flags that are there, and what is left of them when more are made.
-use Rattle.std.specs.Prelude.{◌≡◌, Option, Some, None, List, [], ◌∷◌, ℕ, ◌*◌, ◌<◌, ◌≤◌, length, get_or, if◌then◌else◌}
+use Rattle.std.specs.Prelude.{◌≡◌, Option, Some, None, List, [], ◌∷◌, ℕ, ◌*◌, ◌<◌, ◌≤◌, length, get_or, if◌then◌else◌, ◌+◌}
 use Rattle.laws.specs.Lists.{over}
 use Rattle.rules.specs.declared.Edge.{Edge}
 use Rattle.rules.specs.declared.Driver.{Driver}
@@ -31,6 +31,11 @@ flags_of n ds c = over (λ es p. flag_of es (walk n p)) ds (clocks_of n c)
 -- a walk that ends at a port ends at one of the m pins
 pub record PortWithin (m : ℕ) (end : WalkEnd) : Type 0 where
   pub below : (q : ℕ) (e : Edge) → end ≡ Root q e → q < m
+
+-- n entries from a place on, each one of the pins
+pub record Span (list : List ℕ) (at n : ℕ) : Type 0 where
+  pub fits : at + n ≤ length list
+  pub below : (j : ℕ) → j < n → get_or list (at + j) 0 < length list
 
 -- ---- the state
 pub record Flagging (m at : ℕ) (w ws : List ℕ) (t : Tally) : Type 0 where

@@ -7,9 +7,8 @@ ghost use Rattle.laws.specs.Lists.{over};
 ghost use Rattle.rules.specs.Build.{flag_for, step1};
 ghost use Rattle.rules.specs.Tables.{netlist_in};
 ghost use Rattle.roles.specs.Reading.{Fits, kind_at};
-ghost use Rattle.clocks.specs.Walks.{Span};
 ghost use Rattle.drafts.specs.Table.{drivers_of};
-ghost use Rattle.flags.specs.Flagging.{PortWithin, flag_at, flag_if, flags_of, IsFlagging, IsBlank, AddsFlags};
+ghost use Rattle.flags.specs.Flagging.{Span, PortWithin, flag_at, flag_if, flags_of, IsFlagging, IsBlank, AddsFlags};
 
 use clocks::numbers::is_clock;
 use clocks::{WalkEnd, trace_clock_pin};

@@ -1,5 +1,5 @@
-use Rattle.flags.proofs.Passing.{cell_flagged}
-use Rattle.clocks.proofs.Numbering.{ends_behind, cell_span}
+use Rattle.flags.proofs.Passing.{cell_flagged, cell_span}
+use Rattle.clocks.proofs.Numbering.{ends_behind}
 use Rattle.flags.proofs.cell_flags.Goals as goal
 
 pub overflow_sub-count : goal.overflow_sub-count
