@@ -1,6 +1,5 @@
 -- The loop over all cells, in the code's shape.
 use mathlib.Core.Path.{◌≡◌, refl, sym, ap, ap₂, subst, ◌∙◌}
-use mathlib.Core.Bool.{Bool, true, false}
 use Rattle.std.specs.Prelude.{Some, None, ◌==◌}
 use mathlib.Core.List.{List, [], ◌∷◌, ◌++◌}
 use Prim.Native.Nat.{ℕ, zero, suc, ◌+◌, ◌*◌, ◌/◌, ◌%◌, ◌<◌, ◌≤◌}
@@ -33,7 +32,7 @@ use Rattle.drafts.specs.Table.{Table, drafted, drivers_of, SameLoans, Adds}
 use Rattle.drafts.specs.Layout.{index_at, Written, Flags}
 use Rattle.drafts.proofs.Steps.{below_refl, below_trans, Extended}
 use Rattle.drafts.proofs.Drafting.{loans_refl, loans_trans}
-use Rattle.activity.specs.Traced.{lits, Going, IsGoing, start_at, entry_traced}
+use Rattle.activity.specs.Traced.{lits, Going, IsGoing, start_at}
 use Rattle.activity.proofs.Composing.{step_long, step_short, adds_extended, adds_going}
 use Rattle.flops.specs.Flopped.{flop_clock, flop_made, flop_record, FlopDone}
 use Rattle.flops.proofs.Flopping.{four_keeps}

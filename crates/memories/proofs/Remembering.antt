@@ -41,7 +41,7 @@ use Rattle.flops.specs.declared.Pair.{Pair}
 use Rattle.flops.specs.Flopped.{Known, Both, Doubles}
 use Rattle.flops.proofs.Flopping.{known, pair_stops}
 use Rattle.rows.specs.Words.{plain_word}
-use Rattle.memories.specs.Remembered.{clock_at, clocks_made, reads_first, turned, ram_clocks, bits_made, BitsDone, enable_of, row_made, row_word, ClockedDone, ram_made, RowDone, with_more, RamDone, begun, fresh, short}
+use Rattle.memories.specs.Remembered.{clock_at, clocks_made, reads_first, turned, ram_clocks, bits_made, BitsDone, enable_of, row_made, row_word, ClockedDone, ram_made, RowDone, RamDone, begun, fresh, short}
 use Rattle.memories.proofs.Begun.{begun_pin}
 
 -- ---- the clocks
