@@ -1,29 +1,24 @@
 -- 3 to 11 and the graph, then the whole call, in the code's shape.
 use mathlib.Core.Path.{◌≡◌, refl, sym, ap, ◌∙◌}
-use mathlib.Core.Bool.{true, false}
 use mathlib.Core.List.{List}
 use Prim.Native.Nat.{ℕ, zero, suc, ◌+◌, ◌*◌}
-use native.Mathlib.Omega.{arith}
 use lib.ListN.{length}
-use Rattle.std.specs.Prelude.{Option, Some, None, Result, Ok, Err}
+use Rattle.std.specs.Prelude.{Some, None, Ok, Err}
 use Rattle.laws.specs.Tests.{refuse}
-use Rattle.laws.proofs.Tests.{next-refused, refused, passed}
+use Rattle.laws.proofs.Tests.{next-refused, refused}
 use Rattle.laws.proofs.Words.{zeros-length}
 use Rattle.rules.specs.declared.Rooms.{Rooms}
 use Rattle.rules.specs.declared.Refusal.{Refusal}
 use Rattle.rules.specs.declared.Refusal.TheVariants.{Room}
-use Rattle.rules.specs.declared.Tally.{Tally}
 use Rattle.rules.specs.Netlist.{Netlist, size}
 use Rattle.rules.specs.Build.{graph_of, tally}
 use Rattle.rules.specs.Refusals.{netlist_number, room_fits}
-use Rattle.rules.specs.Answers.{BuildLengths, BuildTables, build_tables, build_answer, done_of}
+use Rattle.rules.specs.Answers.{BuildLengths, BuildTables, build_tables, done_of}
 use Rattle.rules.proofs.Tables.{clash}
 use Rattle.walk.proofs.Answered.{refused_too, or_refused}
 use Rattle.roles.specs.Reading.{tables}
-use Rattle.checks.specs.Ready.{Asked}
 use Rattle.prepares.specs.Prepared.{MadeReady, TurnedAway}
-use Rattle.draws.specs.Drawing.{empty, undrawn}
-use Rattle.aig.specs.Building.{lent, lengths_of, blank, asked, Unfinished, unfinished, Finished, finished, too_small, Waiting, waiting, number, BuiltAs}
+use Rattle.aig.specs.Building.{lent, lengths_of, blank, asked, Finished, finished, too_small, Waiting, waiting, number, BuiltAs}
 
 -- ---- a refusal, and success
 pub blank-held : (k : ℕ) (n : Netlist) (l : BuildLengths) (e : Refusal) → Err e ≡ done_of k → blank l ≡ build_tables k n l
@@ -55,12 +50,6 @@ module _ (kinds starts list pins nets : List ℕ) (rm : Rooms) (w ws os fs rs ls
   abbrev n : Netlist
   n = tables kinds starts list pins nets
 
-  pub asked_for : Asked kinds starts list pins w
-  asked_for = from u
-    where
-      from : Waiting kinds starts list pins rm w (lent ws os fs rs ls ss es) → Asked kinds starts list pins w
-      from (waiting a b c d e) = a
-
   blank_all : lent ws os fs rs ls ss es ≡ blank (asked (length list) rm (length w))
   blank_all = from u
     where
@@ -72,29 +61,10 @@ module _ (kinds starts list pins nets : List ℕ) (rm : Rooms) (w ws os fs rs ls
     asked_away e p = refused_as n rm w w₁ (lent ws os fs rs ls ss es) e (or_refused (netlist_number n) (refuse 11 (room_fits (tally (graph_of n)) rm)) tt e p.answer) blank_all p.size_kept
 
     module _ (p : MadeReady (tables kinds starts list pins nets) w w₁) where
-      pub asked_ready : Unfinished (tables kinds starts list pins nets) rm w₁ (lent ws os fs rs ls ss es)
-      asked_ready = from u
-        where
-          from : Waiting kinds starts list pins rm w (lent ws os fs rs ls ss es) → Unfinished n rm w₁ (lent ws os fs rs ls ss es)
-          from (waiting a b c d e) = unfinished (b ∙ ap (λ (k : ℕ). blank (asked (length list) rm k)) (sym p.size_kept))
-              (undrawn (empty p.fits p.accepted p.cleared c (ap (λ (t : BuildTables). t.drivers) b) (ap (λ (t : BuildTables). t.outputs) b) (omega (arith, e, p.size_kept)))
-              (ap (λ (t : BuildTables). t.dffs) b) (ap (λ (t : BuildTables). t.rams) b) d)
-
       eleven : number n rm ≡ refuse 11 (room_fits (tally (graph_of n)) rm)
       eleven = next-refused (netlist_number n) (refuse 11 (room_fits (tally (graph_of n)) rm)) p.number
 
       module _ (w₂ ws₂ os₂ fs₂ rs₂ ls₂ ss₂ es₂ : List ℕ) where
-        pub asked_made : (t : Tally) → Finished (tables kinds starts list pins nets) rm w₁ (lent ws os fs rs ls ss es) w₂ (lent ws₂ os₂ fs₂ rs₂ ls₂ ss₂ es₂) (Some t)
-            → BuiltAs (tables kinds starts list pins nets) rm w w₂ (lent ws₂ os₂ fs₂ rs₂ ls₂ ss₂ es₂) (Ok t)
-        asked_made t (too_small x a b l) = let q : Some t ≡ None = x in clash (cc)
-        asked_made t (finished v x a b c l) =
-            let q : v ≡ t = cc in
-            let zero-so : number n rm ≡ 0 = eleven ∙ passed 11 (room_fits (tally (graph_of n)) rm) a in record {
-              answer = ap Ok (sym q ∙ c) ∙ sym (ap (λ (k : ℕ). build_answer k n) zero-so);
-              tables = b ∙ (λ i. build_tables (sym zero-so i) n (asked (size n) rm (p.size_kept i)));
-              long = l ∙ p.size_kept;
-            }
-
         pub asked_full : Finished (tables kinds starts list pins nets) rm w₁ (lent ws os fs rs ls ss es) w₂ (lent ws₂ os₂ fs₂ rs₂ ls₂ ss₂ es₂) None → (ws₃ os₃ fs₃ rs₃ ls₃ ss₃ es₃ : List ℕ)
             → lent ws₃ os₃ fs₃ rs₃ ls₃ ss₃ es₃ ≡ blank (lengths_of (lent ws₂ os₂ fs₂ rs₂ ls₂ ss₂ es₂) 0)
             → BuiltAs (tables kinds starts list pins nets) rm w w₂ (lent ws₃ os₃ fs₃ rs₃ ls₃ ss₃ es₃) (Err Room)

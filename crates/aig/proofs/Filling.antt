@@ -6,7 +6,7 @@ use Prim.Native.Nat.{ℕ, ◌+◌, ◌-◌, ◌*◌, ◌≤◌, ◌<◌}
 use native.Mathlib.Omega.{arith}
 use lib.ListN.{length, get_or, length-append}
 use lib.Seq.{ext_get_or}
-use Rattle.std.specs.Prelude.{Option, Some, None}
+use Rattle.std.specs.Prelude.{Some, None}
 use Rattle.laws.specs.Lists.{flat}
 use Rattle.laws.specs.Words.{zeros, filled, part}
 use Rattle.laws.proofs.Ranges.{map-upto, length-map-upto}
@@ -35,11 +35,6 @@ use Rattle.rules.proofs.Tables.{clash}
 use Rattle.ends.specs.Ended.{all_records, all_rows}
 use Rattle.draws.specs.Drawing.{Empty, empty, Undrawn, undrawn, Drawn, drawn, no_room}
 use Rattle.aig.specs.Building.{lent, lengths_of, blank, asked, Unfinished, unfinished, Finished, finished, too_small}
-
--- ---- all tables cleared
-pub all_clear : (ws os fs rs ls ss es ws' os' fs' rs' ls' ss' es' : List ℕ) → ws' ≡ zeros (length ws) → os' ≡ zeros (length os) → fs' ≡ zeros (length fs) → rs' ≡ zeros (length rs)
-    → ls' ≡ zeros (length ls) → ss' ≡ zeros (length ss) → es' ≡ zeros (length es) → lent ws' os' fs' rs' ls' ss' es' ≡ blank (lengths_of (lent ws os fs rs ls ss es) 0)
-all_clear ws os fs rs ls ss es ws' os' fs' rs' ls' ss' es' a b c d e f g = λ i. lent (a i) (b i) (c i) (d i) (e i) (f i) (g i)
 
 -- ---- what a table of the rules' words needs
 fits_in : (xs : List ℕ) (room : ℕ) → length (filled xs room) ≡ room → length xs ≤ room
@@ -135,10 +130,6 @@ module _ (n : Netlist) (rm : Rooms) (w ws os fs rs ls ss es : List ℕ) (u : Unf
       from (empty f a c s z o l) = (l, s.graph_pins)
 
   module _ (w₁ ws₁ os₁ fs₁ rs₁ : List ℕ) where
-    pub fill_full : Drawn n rm w ws os fs rs w₁ ws₁ os₁ fs₁ rs₁ None → Finished n rm w (lent ws os fs rs ls ss es) w₁ (lent ws₁ os₁ fs₁ rs₁ ls ss es) None
-    fill_full (drawn t y a b c d e f i j k) = let q : None ≡ Some t = y in clash (cc)
-    fill_full (no_room y a b c d e f) = too_small y a (same_lengths ws os fs rs ls ss es ws₁ os₁ fs₁ rs₁ ls ss es c d e f refl refl refl) b
-
     module _ (t : Tally) (g : Drawn n rm w ws os fs rs w₁ ws₁ os₁ fs₁ rs₁ (Some t)) where
       all : Whole n rm w ws w₁ ws₁ os₁ fs₁ rs₁ t
       all = from g

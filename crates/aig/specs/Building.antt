@@ -10,7 +10,6 @@ use Rattle.rules.specs.Netlist.{Netlist, size}
 use Rattle.rules.specs.Build.{graph_of, tally}
 use Rattle.rules.specs.Refusals.{netlist_number, room_fits}
 use Rattle.rules.specs.Answers.{BuildLengths, BuildTables, build_number, build_tables, build_answer}
-use Rattle.roles.specs.Reading.{tables}
 use Rattle.checks.specs.Ready.{Asked}
 use Rattle.visits.specs.Drafting.{Sized}
 use Rattle.draws.specs.Drawing.{Undrawn}

@@ -13,7 +13,7 @@ ghost use Rattle.std.specs.Prelude.{◌≡◌, ◌<◌, ◌≤◌, length};
 
 use aig::from_netlistdb;
 use prints::{print_words, read_full};
-use rules::{Built, NetlistCounts, Rooms, Tally};
+use rules::{NetlistCounts, NetlistTables, Refusal, Rooms, Tally};
 use std::io::{self, Read};
 
 // A word of the text, how many words it stands for, and where the text goes on.
@@ -103,21 +103,21 @@ fn plain(text: &[u8; 16384], at: usize) -> Token {
         return Token {
             value: low(byte),
             times: 1,
-            next: next,
+            next,
         };
     }
     if byte == 124 {
         return Token {
             value: 4294967294,
             times: 1,
-            next: next,
+            next,
         };
     }
     if byte == 125 {
         return Token {
             value: 4294967295,
             times: 1,
-            next: next,
+            next,
         };
     }
     let added = low(byte_at(text, next));
@@ -168,6 +168,7 @@ fn read_table(text: &[u8; 16384], at: usize, words: &mut [u32; 9216], place: usi
 {
     let mut next = at;
     let mut i = 0;
+    // A run takes i on by several words, so this is no for.
     while i < 1280 {
         if byte_at(text, next) == 33 {
             return after(text, next);
@@ -204,11 +205,9 @@ fn place_of(table: u32) -> usize
 // Reads a line. Answers where the text goes on.
 fn read_line(text: &[u8; 16384], at: usize, words: &mut [u32; 9216]) -> usize {
     let mut next = at;
-    let mut table = 0u32;
-    while table < 13 {
+    for table in 0..13 {
         let place = place_of(table);
         next = read_table(text, next, words, place);
-        table += 1;
     }
     after(text, next)
 }
@@ -254,12 +253,12 @@ fn lent_words(r: Rooms, pins: u32, spare: u32) -> Lengths
     let more = at_most(spare, 256);
     Lengths {
         drivers: 3 * graph + 3,
-        outputs: outputs,
+        outputs,
         dffs: 3 * dffs,
         rams: 123 * rams,
         literals: own,
         starts: graph + 2,
-        fanouts: fanouts,
+        fanouts,
         work: 8 * own + 8 * graph + 1024 + more,
     }
 }
@@ -283,21 +282,17 @@ fn full() -> [u32; 6144]
 // ---- comparing
 fn call_told(score: Score, call: u32) -> Score {
     Score {
-        netlist: score.netlist,
-        call: call,
+        call,
         calls: plus(score.calls, 1),
-        words: score.words,
-        wrong: score.wrong,
+        ..score
     }
 }
 
 fn counted(score: Score, wrong: u32) -> Score {
     Score {
-        netlist: score.netlist,
-        call: score.call,
-        calls: score.calls,
         words: plus(score.words, 1),
         wrong: plus(score.wrong, wrong),
+        ..score
     }
 }
 
@@ -341,10 +336,8 @@ fn expected(words: &[u32; 9216], from: usize, used: usize, lent: usize, place: u
     requires place_bound { place < 6144 }
 {
     let at = from + place;
-    if place < used {
-        if at < 9216 {
-            return words[at];
-        }
+    if place < used && at < 9216 {
+        return words[at];
     }
     if place < lent {
         return 0;
@@ -375,11 +368,9 @@ fn compare(
     let from = 2048 + 1024 * at_most(table, 7);
     let end = end_of(lent);
     let mut told = score;
-    let mut place = 0;
-    while place < end {
+    for place in 0..end {
         let recorded = expected(words, from, used, lent, place);
         told = word_told(rt, told, table, place as u32, recorded, found[place])?;
-        place += 1;
     }
     Ok(told)
 }
@@ -393,35 +384,27 @@ fn tally_told(rt: &impl Print, score: Score, t: Tally, words: &[u32; 9216]) -> i
     word_told(rt, d, 8, 5, words[7], t.rams)
 }
 
-fn not_made(number: u32) -> u32 {
-    if number == 0 {
-        return 99;
-    }
-    number
-}
-
 // The answer: 0 or the number of the refusal, and the tallies.
 fn answer_told(
     rt: &impl Print,
     score: Score,
-    answer: Built,
+    answer: Result<Tally, Refusal>,
     number: u32,
     words: &[u32; 9216],
 ) -> io::Result<Score> {
     match answer {
-        Built::Made(t) => {
+        Ok(t) => {
             let told = word_told(rt, score, 8, 0, number, 0)?;
             tally_told(rt, told, t, words)
         }
-        Built::Refused(n) => word_told(rt, score, 8, 0, number, not_made(n)),
+        Err(refusal) => word_told(rt, score, 8, 0, number, refusal.number()),
     }
 }
 
 // How many words of each table are the graph's: none after a refusal.
 fn used_words(words: &[u32; 9216], number: u32) -> Lengths {
     if number == 0 {
-        let all = lent_words(needed(words), words[1], 0);
-        return all;
+        return lent_words(needed(words), words[1], 0);
     }
     Lengths {
         drivers: 0,
@@ -441,7 +424,7 @@ fn compare_all(
     score: Score,
     words: &[u32; 9216],
     number: u32,
-    answer: Built,
+    answer: Result<Tally, Refusal>,
     lent: Lengths,
     drivers: &[u32; 6144],
     outputs: &[u32; 6144],
@@ -468,11 +451,7 @@ fn compare_all(
 fn run_call(
     rt: &impl Print,
     words: &[u32; 9216],
-    kinds: &[u32],
-    starts: &[u32],
-    list: &[u32],
-    pins: &[u32],
-    nets: &[u32],
+    n: NetlistTables,
     rooms: Rooms,
     spare: u32,
     number: u32,
@@ -488,30 +467,18 @@ fn run_call(
     let mut fanout_starts = full();
     let mut fanouts = full();
     let mut work = full();
-    let drivers_long = long.drivers;
-    let outputs_long = long.outputs;
-    let dffs_long = long.dffs;
-    let rams_long = long.rams;
-    let literals_long = long.literals;
-    let starts_long = long.starts;
-    let fanouts_long = long.fanouts;
-    let work_long = long.work;
     let answer = from_netlistdb(
         c,
         rooms,
-        kinds,
-        starts,
-        list,
-        pins,
-        nets,
-        &mut drivers[..drivers_long],
-        &mut outputs[..outputs_long],
-        &mut dffs[..dffs_long],
-        &mut rams[..rams_long],
-        &mut literals[..literals_long],
-        &mut fanout_starts[..starts_long],
-        &mut fanouts[..fanouts_long],
-        &mut work[..work_long],
+        n,
+        &mut drivers[..long.drivers],
+        &mut outputs[..long.outputs],
+        &mut dffs[..long.dffs],
+        &mut rams[..long.rams],
+        &mut literals[..long.literals],
+        &mut fanout_starts[..long.starts],
+        &mut fanouts[..long.fanouts],
+        &mut work[..long.work],
     );
     compare_all(
         rt,
@@ -559,69 +526,33 @@ fn with_room(r: Rooms, which: u32, n: u32) -> Rooms {
 fn run_short(
     rt: &impl Print,
     words: &[u32; 9216],
-    kinds: &[u32],
-    starts: &[u32],
-    list: &[u32],
-    pins: &[u32],
-    nets: &[u32],
+    n: NetlistTables,
     which: u32,
     score: Score,
 ) -> io::Result<Score> {
     let rooms = needed(words);
-    let n = room(rooms, which);
-    if n == 0 {
+    let need = room(rooms, which);
+    if need == 0 {
         return Ok(score);
     }
-    let short = with_room(rooms, which, n - 1);
+    let short = with_room(rooms, which, need - 1);
     let called = call_told(score, plus(which, 2));
-    run_call(
-        rt, words, kinds, starts, list, pins, nets, short, 0, 11, called,
-    )
+    run_call(rt, words, n, short, 0, 11, called)
 }
 
 // Call 0 has wide rooms, call 1 just enough, and each other one of them short.
 fn run_calls(
     rt: &impl Print,
     words: &[u32; 9216],
-    kinds: &[u32],
-    starts: &[u32],
-    list: &[u32],
-    pins: &[u32],
-    nets: &[u32],
+    n: NetlistTables,
     score: Score,
 ) -> io::Result<Score> {
     let rooms = needed(words);
     let wide = larger(rooms);
-    let first = run_call(
-        rt,
-        words,
-        kinds,
-        starts,
-        list,
-        pins,
-        nets,
-        wide,
-        9,
-        0,
-        call_told(score, 0),
-    )?;
-    let mut told = run_call(
-        rt,
-        words,
-        kinds,
-        starts,
-        list,
-        pins,
-        nets,
-        rooms,
-        0,
-        0,
-        call_told(first, 1),
-    )?;
-    let mut which = 0;
-    while which < 5 {
-        told = run_short(rt, words, kinds, starts, list, pins, nets, which, told)?;
-        which += 1;
+    let first = run_call(rt, words, n, wide, 9, 0, call_told(score, 0))?;
+    let mut told = run_call(rt, words, n, rooms, 0, 0, call_told(first, 1))?;
+    for which in 0..5 {
+        told = run_short(rt, words, n, which, told)?;
     }
     Ok(told)
 }
@@ -631,12 +562,14 @@ fn run_words(rt: &impl Print, words: &[u32; 9216], score: Score) -> io::Result<S
     let whole = &words[..];
     let cells = at_most(words[0], 79);
     let own = at_most(words[1], 256);
-    let kinds = &whole[16..16 + cells];
-    let starts = &whole[96..96 + cells + 1];
-    let list = &whole[192..192 + own];
-    let pins = &whole[448..448 + 5 * own];
-    let nets = &whole[1728..1728 + at_most(words[2], 256)];
-    run_calls(rt, words, kinds, starts, list, pins, nets, score)
+    let n = NetlistTables {
+        kinds: &whole[16..16 + cells],
+        starts: &whole[96..96 + cells + 1],
+        list: &whole[192..192 + own],
+        pins: &whole[448..448 + 5 * own],
+        nets: &whole[1728..1728 + at_most(words[2], 256)],
+    };
+    run_calls(rt, words, n, score)
 }
 
 // The score so far, and where the text goes on.
@@ -650,9 +583,7 @@ fn netlist_told(score: Score) -> Score {
     Score {
         netlist: plus(score.netlist, 1),
         call: 0,
-        calls: score.calls,
-        words: score.words,
-        wrong: score.wrong,
+        ..score
     }
 }
 
@@ -669,25 +600,17 @@ fn run_line(rt: &impl Print, text: &[u8; 16384], run: Run) -> io::Result<Run> {
     let mut words = [0u32; 9216];
     let next = read_line(text, at, &mut words);
     let score = run_words(rt, &words, netlist_told(before))?;
-    Ok(Run {
-        score: score,
-        next: next,
-    })
+    Ok(Run { score, next })
 }
 
 // A block of lines.
 fn run_block(rt: &impl Print, text: &[u8; 16384], score: Score) -> io::Result<Score> {
-    let mut run = Run {
-        score: score,
-        next: 0,
-    };
-    let mut i = 0u32;
-    while i < 16384 {
+    let mut run = Run { score, next: 0 };
+    for _ in 0..16384 {
         if 16384 <= run.next {
             return Ok(run.score);
         }
         run = run_line(rt, text, run)?;
-        i += 1;
     }
     Ok(run.score)
 }
@@ -705,14 +628,12 @@ fn run_all(rt: &impl Print, input: &mut impl Read) -> io::Result<Score> {
         wrong: 0,
     };
     let mut text = [0u8; 16384];
-    let mut i = 0u32;
-    while i < 4096 {
+    for _ in 0..4096 {
         let n = read_block(input, &mut text)?;
         if n == 0 {
             return Ok(score);
         }
         score = run_block(rt, &text, score)?;
-        i += 1;
     }
     Ok(score)
 }
