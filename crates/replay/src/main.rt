@@ -168,6 +168,7 @@ fn read_table(text: &[u8; 16384], at: usize, words: &mut [u32; 9216], place: usi
 {
     let mut next = at;
     let mut i = 0;
+    // A run takes i on by several words, so this is no for.
     while i < 1280 {
         if byte_at(text, next) == 33 {
             return after(text, next);
