@@ -125,6 +125,7 @@ fn put_built(out: &mut [u8], c: NetlistCounts, n: NetlistTables, levels: &[u32])
     let mut fanouts = [0u32; 2048];
     let mut work = [0u32; 13312];
     let k = (c.pins as usize).min(512);
+    let lits = &mut literals[..k];
     let built = from_netlistdb(
         c,
         ROOMS,
@@ -133,7 +134,7 @@ fn put_built(out: &mut [u8], c: NetlistCounts, n: NetlistTables, levels: &[u32])
         &mut outputs,
         &mut dffs,
         &mut rams,
-        &mut literals[..k],
+        lits,
         &mut fanout_starts,
         &mut fanouts,
         &mut work,
@@ -145,7 +146,7 @@ fn put_built(out: &mut [u8], c: NetlistCounts, n: NetlistTables, levels: &[u32])
                 return put_refusal(out, Refusal::Room);
             }
             let g = used(t, &drivers, &outputs, &dffs, &rams);
-            let p = put_pins(out, 0, t, c.pins, &literals[..k], g.drivers);
+            let p = put_pins(out, 0, t, c.pins, lits, g.drivers);
             let q = put_records(out, p, g.ends);
             let r = put_fanouts(out, q, t, &fanout_starts, &fanouts);
             put_staged(out, r, g, levels)
