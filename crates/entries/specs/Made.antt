@@ -50,3 +50,4 @@ pub record AddsOutput (m p l : ℕ) (d : Draft) (os : List ℕ) (d' : Draft) (os
   pub loans : SameLoans d d'
   pub drivers : d'.drivers.now ≡ d.drivers.now
   pub made : OutputMade m p l d.work.now os d.tally d'.work.now os' (draft.counted r d'.tally)
+  pub kept : r ≡ None → d'.tally ≡ d.tally
