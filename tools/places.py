@@ -56,7 +56,7 @@ def places(commit):
             at = f"{name}:{i}"
             if (m := re.match(r"\s*(?:pub )?enum (\w+)", line)) and m.group(1) in OPTION_SHAPED:
                 found["1 enum"].append(at)
-            if re.match(r"\s*(pub )?(fits|read|last|number|ok|found): (bool|u32)", line):
+            if re.match(r"\s*(pub )?((fits|read|last|ok|found): bool|number: u32)", line):
                 found["1 flag"].append(at)
             if re.match(r"\s*while ", line):
                 found["3 loop"].append(at)
