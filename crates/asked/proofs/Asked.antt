@@ -1,5 +1,5 @@
 -- A split of a graph that was checked: its refusals, and what it leaves in the tables.
-use Rattle.std.specs.Prelude.{Some, Ok, Err}
+use Rattle.std.specs.Prelude.{Some, Result, Ok, Err, ◌⊎◌}
 use mathlib.Core.Path.{◌≡◌, sym, ap, subst, ◌∙◌}
 use mathlib.Core.Logic.{inl, inr}
 use mathlib.Core.Bool.{Bool, true, false, ◌&&◌}
@@ -15,8 +15,7 @@ use Rattle.laws.proofs.Tests.{true≢false, and_l, and_r, and-false}
 use Rattle.laws.proofs.Bags.{every_true}
 use Rattle.laws.proofs.Words.{part_none, part_filled, zero_from_zeros}
 use Rattle.rules.specs.declared.GraphCounts.{GraphCounts}
-use Rattle.rules.specs.declared.Refusal.{Refusal}
-use Rattle.rules.specs.declared.Refusal.TheVariants.{Index}
+use Rattle.rules.specs.declared.Refusal.TheVariants.{Index, NothingRead, Room as NoRoom}
 use Rattle.rules.specs.Tables.{graph_in, held}
 use Rattle.rules.specs.Stages.{Stage, split}
 use Rattle.rules.specs.Refusals.{below, no_repeat, something_read}
@@ -26,7 +25,8 @@ use Rattle.levels.specs.State.{stops_of}
 use Rattle.picks.specs.Tables.{Open, Pushed}
 use Rattle.splits.specs.declared.Spot.{Spot}
 use Rattle.splits.specs.declared.Piece.{Piece}
-use Rattle.splits.specs.State.{split_in, order_in, Idle, Cut, Uncut, Unmade, nothing, narrow}
+use Rattle.splits.specs.declared.Narrow.{Narrow}
+use Rattle.splits.specs.State.{split_in, order_in, Idle, Cut, Uncut, CutOff}
 use Rattle.asked.specs.Answer.{Room, sets, Laid, Begun, begun, no_sets, Parts, late_number, Parted1}
 use Rattle.asked.proofs.Graphs.{stops_members, split_is, nothing_read}
 
@@ -37,6 +37,11 @@ filled_by t ws t' n p = part_filled t' n p.inside p.ready.zero
 
 pub open_zero : (t : List ℕ) → t ≡ zeros (length t) → Open t 0
 open_zero t z = record { inside = omega arith; zero = subst (λ (x : List ℕ). ZeroFrom x 0) (sym z) (zero_from_zeros (length t) 0) }
+
+-- how many pins are listed, whether or not there was room
+abbrev pub listed_by : Result Piece Narrow → ℕ
+listed_by (Ok p) = p.listed
+listed_by (Err e) = e.listed
 
 module _ (c : GraphCounts) (ws os ds rs chosen before : List ℕ) (level : ℕ) (h t w : List ℕ) (P : Parts c ws os ds rs h t w) where
   abbrev S : Stage
@@ -122,24 +127,35 @@ module _ (c : GraphCounts) (ws os ds rs chosen before : List ℕ) (level : ℕ) 
           rw ((is_yes b).1, y)
 
       module _ (w₂ h₂ t₂ : List ℕ) where
-        pub part_refused : (e : Refusal) → Uncut c ws os ds rs at w₁ h t w₂ h₂ t₂ e → (h₃ t₃ : List ℕ) → h₃ ≡ zeros (length h₂) → t₃ ≡ zeros (length t₂)
-            → Parted1 c ws os ds rs chosen before level h t h₃ t₃ (Err e)
-        part_refused e u h₃ t₃ eh et = by_reason u.why
-          where
-            by_number : (k : ℕ) → late_number c (words_of ws os ds rs) chosen before level (length h) (length t) ≡ suc k → e ≡ get_or refusals k Index
-                → Parted1 c ws os ds rs chosen before level h t h₃ t₃ (Err e)
-            by_number k n v = subst (λ (x : Refusal). Parted1 c ws os ds rs chosen before level h t h₃ t₃ (Err x)) (sym v)
-                (refused_by k n h₃ t₃ (eh ∙ ap zeros u.handed_long) (et ∙ ap zeros u.taken_long))
+        told : (r : Result Piece Narrow) → CutOff c ws os ds rs at w₁ h t w₂ h₂ t₂ r → listed_by r ≡ length (order_in c ws os ds rs (c.pins + 1) (part w₁ (8 * (c.pins + 1)) (length chosen)) (stops_of w₁ (c.pins + 1)))
+        told (Ok p) q = q.listed
+        told (Err e) u = u.listed
 
-            by_reason : Unmade c ws os ds rs at w₁ h t e → Parted1 c ws os ds rs chosen before level h t h₃ t₃ (Err e)
-            by_reason (nothing z v) = by_number 13
-                (late_14 (sym read_is ∙ le-ltb 0 (length (order_in c ws os ds rs (c.pins + 1) (part w₁ (8 * (c.pins + 1)) (length chosen)) (stops_of w₁ (c.pins + 1)))) (omega (arith, z)))) v
-            by_reason (narrow n (inl a) v) =
+        kept : (r : Result Piece Narrow) → CutOff c ws os ds rs at w₁ h t w₂ h₂ t₂ r → (length h₂ ≡ length h) × (length t₂ ≡ length t)
+        kept (Ok p) q = (q.handed.long, q.taken.long)
+        kept (Err e) u = (u.handed_long, u.taken_long)
+
+        -- nothing is read, whether or not there is room
+        pub part_nothing : (r : Result Piece Narrow) → CutOff c ws os ds rs at w₁ h t w₂ h₂ t₂ r → (n : ℕ) → n ≡ listed_by r → n ≡ 0
+            → (h₃ t₃ : List ℕ) → h₃ ≡ zeros (length h₂) → t₃ ≡ zeros (length t₂) → Parted1 c ws os ds rs chosen before level h t h₃ t₃ (Err NothingRead)
+        part_nothing r q n e z h₃ t₃ eh et = refused_by 13
+            (late_14 (sym read_is ∙ le-ltb 0 (length (order_in c ws os ds rs (c.pins + 1) (part w₁ (8 * (c.pins + 1)) (length chosen)) (stops_of w₁ (c.pins + 1)))) (omega (arith, z, e, told r q))))
+            h₃ t₃ (eh ∙ ap zeros (kept r q).0) (et ∙ ap zeros (kept r q).1)
+
+        pub part_narrow : (e : Narrow) → Uncut c ws os ds rs at w₁ h t w₂ h₂ t₂ e → (n : ℕ) → n ≡ e.listed → (n ≡ 0 → ⊥)
+            → (h₃ t₃ : List ℕ) → h₃ ≡ zeros (length h₂) → t₃ ≡ zeros (length t₂) → Parted1 c ws os ds rs chosen before level h t h₃ t₃ (Err NoRoom)
+        part_narrow e u n en nz h₃ t₃ eh et = refused_by 10 (late_last (omega (arith, nz, en, u.listed)) ∙ by_room u.narrow)
+            h₃ t₃ (eh ∙ ap zeros u.handed_long) (et ∙ ap zeros u.taken_long)
+          where
+            by_room : (length h < 0 + length (split_in c ws os ds rs (c.pins + 1) (part w₁ (8 * (c.pins + 1)) (length chosen)) (stops_of w₁ (c.pins + 1)) level).handed)
+                ⊎ (length t < 0 + length (split_in c ws os ds rs (c.pins + 1) (part w₁ (8 * (c.pins + 1)) (length chosen)) (stops_of w₁ (c.pins + 1)) level).taken)
+                → refuse 11 (stage_fits S (length h) (length t)) ≡ 11
+            by_room (inl a) =
                 let k : length h < length S.handed = subst (λ (s : Stage). length h < length s.handed) stage_is (omega (arith, a)) in
-                by_number 10 (late_last n ∙ rw (lt-leb (length S.handed) (length h) k)) v
-            by_reason (narrow n (inr a) v) =
+                rw (lt-leb (length S.handed) (length h) k)
+            by_room (inr a) =
                 let k : length t < length S.taken = subst (λ (s : Stage). length t < length s.taken) stage_is (omega (arith, a)) in
-                by_number 10 (late_last n ∙ rw (lt-leb (length S.taken) (length t) k, and-false (length S.handed ≤? length h))) v
+                rw (lt-leb (length S.taken) (length t) k, and-false (length S.handed ≤? length h))
 
         module _ (p : Piece) (q : Cut c ws os ds rs at w₁ h t w₂ h₂ t₂ p) where
           ph : Pushed h 0 S.handed h₂ p.handed
@@ -154,12 +170,12 @@ module _ (c : GraphCounts) (ws os ds rs chosen before : List ℕ) (level : ℕ) 
           pub part_taken : p.taken ≤ 16777215
           part_taken = omega (arith, pt.inside, pt.long, P.taken_few)
 
-          pub part_made : Parted1 c ws os ds rs chosen before level h t h₂ t₂ (Ok (record { handed = p.handed; taken = p.taken }))
-          part_made =
+          pub part_made : (n : ℕ) → n ≡ p.listed → (n ≡ 0 → ⊥) → Parted1 c ws os ds rs chosen before level h t h₂ t₂ (Ok (record { handed = p.handed; taken = p.taken }))
+          part_made n en nz =
               let lh : length S.handed ≤ length h = omega (arith, ph.count, ph.inside, ph.long) in
               let lt : length S.taken ≤ length t = omega (arith, pt.count, pt.inside, pt.long) in
               let e : late_number c (words_of ws os ds rs) chosen before level (length h) (length t) ≡ 0
-              = late_last (omega (arith, q.listed, q.some)) ∙ rw (le-leb (length S.handed) (length h) lh, le-leb (length S.taken) (length t) lt) in
+              = late_last (omega (arith, nz, en, q.listed)) ∙ rw (le-leb (length S.handed) (length h) lh, le-leb (length S.taken) (length t) lt) in
               let nh : p.handed ≡ length S.handed = omega (arith, ph.count) in
               let nt : p.taken ≡ length S.taken = omega (arith, pt.count) in
               record {

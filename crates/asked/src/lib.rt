@@ -65,15 +65,23 @@ pub fn part_checked(
         handed: 0,
         taken: 0,
     };
-    match cut(g, work, handed, taken, at) {
-        Ok(p) => Ok(StageSize {
-            handed: p.handed as u32,
-            taken: p.taken as u32,
-        }),
-        Err(e) => {
-            zero(handed);
-            zero(taken);
-            Err(e)
-        }
+    let r = cut(g, work, handed, taken, at);
+    let listed = match &r {
+        Ok(p) => p.listed,
+        Err(e) => e.listed,
+    };
+    if listed == 0 {
+        zero(handed);
+        zero(taken);
+        return Err(Refusal::NothingRead);
     }
+    let Ok(p) = r else {
+        zero(handed);
+        zero(taken);
+        return Err(Refusal::Room);
+    };
+    Ok(StageSize {
+        handed: p.handed as u32,
+        taken: p.taken as u32,
+    })
 }

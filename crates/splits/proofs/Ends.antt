@@ -12,7 +12,6 @@ use Rattle.laws.proofs.Bags.{keep_le}
 use Rattle.laws.proofs.Indices.{at_in}
 use Rattle.laws.proofs.Words.{part_in, part_at, part_length}
 use Rattle.rules.specs.declared.GraphCounts.{GraphCounts}
-use Rattle.rules.specs.declared.Refusal.TheVariants.{NothingRead, Room}
 use Rattle.rules.specs.Stages.{Stage}
 use Rattle.rules.specs.Answers.{endpoints}
 use Rattle.members.specs.Set.{SetIn}
@@ -20,7 +19,7 @@ use Rattle.levels.specs.State.{stops_of, Lefts}
 use Rattle.joins.specs.State.{Takens}
 use Rattle.picks.specs.Tables.{picks, take_test, free_test, Full, Pushed}
 use Rattle.splits.specs.declared.Spot.{Spot}
-use Rattle.splits.specs.State.{split_in, order_in, Idle, Prepared, WorkedOut, Cut, Uncut, nothing, narrow}
+use Rattle.splits.specs.State.{split_in, order_in, Idle, Prepared, WorkedOut, Cut, Uncut}
 use Rattle.splits.proofs.Cuts.{taken_is, handed_is, cut_used, cut_stays}
 
 picks_le : (f : ℕ → Bool) (x : ℕ) (l : List ℕ) → count x (picks f l) ≤ count x l
@@ -44,20 +43,17 @@ module _ (c : GraphCounts) (ws os ds rs : List ℕ) (at : Spot) (w h t : List �
   listed : k ≡ length (order_in c ws os ds rs at.m (part w (8 * at.m) at.left) (stops_of w at.m))
   listed = sym (part_length w₁ (3 * m) k (omega (arith, p₁.going.listing.long, p₁.going.listing.count))) ∙ ap length p₁.list
 
-  -- nothing is read
-  pub cut_nothing : k ≡ 0 → Uncut c ws os ds rs at w h t w₁ h t NothingRead
-  cut_nothing z = record { why = nothing (sym listed ∙ z) refl; work_long = p₁.long; handed_long = refl; taken_long = refl }
-
-  module _ (nz : k ≡ 0 → ⊥) (t' : List ℕ) where
+  module _ (t' : List ℕ) where
     abbrev es : List ℕ
     es = picks (take_test c os ds rs at.m w₁ at.d) (part w₁ (8 * at.m) at.left)
 
     es_is : picks (take_test c os ds rs at.m w₁ at.d) (part w₁ (8 * at.m) at.left) ≡ S.taken
     es_is = taken_is c ws os ds rs at.m at.d w at.left idle w₁ k p₁
 
-    pub cut_narrow : Full t at.taken (picks (take_test c os ds rs at.m w₁ at.d) (part w₁ (8 * at.m) at.left)) t' → Uncut c ws os ds rs at w h t w₁ h t' Room
+    pub cut_narrow : Full t at.taken (picks (take_test c os ds rs at.m w₁ at.d) (part w₁ (8 * at.m) at.left)) t' → Uncut c ws os ds rs at w h t w₁ h t' (record { listed = k })
     cut_narrow f = record {
-      why = narrow (omega (arith, nz, listed)) (inr (subst (λ (x : List ℕ). length t < at.taken + length x) es_is f.small)) refl;
+      narrow = inr (subst (λ (x : List ℕ). length t < at.taken + length x) es_is f.small);
+      listed = listed;
       work_long = p₁.long;
       handed_long = refl;
       taken_long = f.long;
@@ -99,12 +95,12 @@ module _ (c : GraphCounts) (ws os ds rs : List ℕ) (at : Spot) (w h t : List �
           used = cut_used c ws os ds rs at.m at.d w at.left idle w₁ k p₁ (part t' at.taken (n' - at.taken)) (part_is ∙ es_is) w₂ size wk;
           stays = cut_stays c ws os ds rs at.m at.d w at.left idle w₁ k p₁ (part t' at.taken (n' - at.taken)) (part_is ∙ es_is) w₂ size wk;
           listed = listed;
-          some = omega (arith, nz);
         }
 
-        pub cut_full : (h' : List ℕ) → Full h at.handed (picks (free_test at.m w₂) (part w₂ (6 * at.m) size)) h' → Uncut c ws os ds rs at w h t w₂ h' t' Room
+        pub cut_full : (h' : List ℕ) → Full h at.handed (picks (free_test at.m w₂) (part w₂ (6 * at.m) size)) h' → Uncut c ws os ds rs at w h t w₂ h' t' (record { listed = k })
         cut_full h' f = record {
-          why = narrow (omega (arith, nz, listed)) (inl (subst (λ (x : List ℕ). length h < at.handed + length x) hs_is f.small)) refl;
+          narrow = inl (subst (λ (x : List ℕ). length h < at.handed + length x) hs_is f.small);
+          listed = listed;
           work_long = wk.kept.long ∙ p₁.long;
           handed_long = f.long;
           taken_long = fits.long;

@@ -5,8 +5,6 @@ use Rattle.laws.specs.Search.{visits, level}
 use Rattle.laws.specs.Words.{part}
 use Rattle.rules.specs.declared.GraphTables.{GraphTables}
 use Rattle.rules.specs.declared.GraphCounts.{GraphCounts}
-use Rattle.rules.specs.declared.Refusal.{Refusal}
-use Rattle.rules.specs.declared.Refusal.TheVariants.{NothingRead, Room}
 use Rattle.rules.specs.Graph.{Graph}
 use Rattle.rules.specs.Tables.{drivers_in, record_in, ram_in}
 use Rattle.rules.specs.Stages.{Joining, Stage, split}
@@ -21,6 +19,7 @@ use Rattle.picks.specs.Tables.{Pushed}
 use Rattle.clears.specs.State.{Used}
 use Rattle.splits.specs.declared.Spot.{Spot}
 use Rattle.splits.specs.declared.Piece.{Piece}
+use Rattle.splits.specs.declared.Narrow.{Narrow}
 
 -- the graph of the words, whose driver table has m rows
 unfoldable pub graph_of : GraphCounts → List ℕ → List ℕ → List ℕ → List ℕ → ℕ → Graph
@@ -81,23 +80,17 @@ pub record Cut (c : GraphCounts) (ws os ds rs : List ℕ) (at : Spot) (w h t w' 
   pub used : Used at.m w' p.listed p.size
   pub stays : Stays at.m w w'
   pub listed : p.listed ≡ length (order_in c ws os ds rs at.m (part w (8 * at.m) at.left) (stops_of w at.m))
-  pub some : 0 < p.listed
 
--- why it was not made: nothing is read, or a table has too little room
-pub data Unmade (c : GraphCounts) (ws os ds rs : List ℕ) (at : Spot) (w h t : List ℕ) (e : Refusal) : Type 0 where
-  nothing : length (order_in c ws os ds rs at.m (part w (8 * at.m) at.left) (stops_of w at.m)) ≡ 0 → e ≡ NothingRead → Unmade c ws os ds rs at w h t e
-  narrow : 0 < length (order_in c ws os ds rs at.m (part w (8 * at.m) at.left) (stops_of w at.m))
-      → (length h < at.handed + length (split_in c ws os ds rs at.m (part w (8 * at.m) at.left) (stops_of w at.m) at.d).handed) ⊎ (length t < at.taken + length (split_in c ws os ds rs at.m (part w (8 * at.m) at.left) (stops_of w at.m) at.d).taken)
-      → e ≡ Room → Unmade c ws os ds rs at w h t e
-
-pub record Uncut (c : GraphCounts) (ws os ds rs : List ℕ) (at : Spot) (w h t w' h' t' : List ℕ) (e : Refusal) : Type 0 where
-  pub why : Unmade c ws os ds rs at w h t e
+-- a table has too little room; how many pins are listed is told all the same
+pub record Uncut (c : GraphCounts) (ws os ds rs : List ℕ) (at : Spot) (w h t w' h' t' : List ℕ) (e : Narrow) : Type 0 where
+  pub narrow : (length h < at.handed + length (split_in c ws os ds rs at.m (part w (8 * at.m) at.left) (stops_of w at.m) at.d).handed) ⊎ (length t < at.taken + length (split_in c ws os ds rs at.m (part w (8 * at.m) at.left) (stops_of w at.m) at.d).taken)
+  pub listed : e.listed ≡ length (order_in c ws os ds rs at.m (part w (8 * at.m) at.left) (stops_of w at.m))
   pub work_long : length w' ≡ length w
   pub handed_long : length h' ≡ length h
   pub taken_long : length t' ≡ length t
 
 -- what a split leaves
-abbrev pub CutOff : GraphCounts → List ℕ → List ℕ → List ℕ → List ℕ → Spot → List ℕ → List ℕ → List ℕ → List ℕ → List ℕ → List ℕ → Result Piece Refusal → Type 0
+abbrev pub CutOff : GraphCounts → List ℕ → List ℕ → List ℕ → List ℕ → Spot → List ℕ → List ℕ → List ℕ → List ℕ → List ℕ → List ℕ → Result Piece Narrow → Type 0
 CutOff c ws os ds rs at w h t w' h' t' (Ok p) = Cut c ws os ds rs at w h t w' h' t' p
 CutOff c ws os ds rs at w h t w' h' t' (Err e) = Uncut c ws os ds rs at w h t w' h' t' e
 
@@ -108,5 +101,5 @@ PreparedIn g = Prepared g.ends.counts g.drivers.now g.ends.outputs.now g.ends.df
 abbrev pub WorkedOutIn : GraphTables → List ℕ → ℕ → ℕ → ℕ → List ℕ → List ℕ → ℕ → Type 0
 WorkedOutIn g = WorkedOut g.ends.counts g.drivers.now g.ends.outputs.now g.ends.dffs.now g.ends.rams.now
 
-abbrev pub CutOffIn : GraphTables → Spot → List ℕ → List ℕ → List ℕ → List ℕ → List ℕ → List ℕ → Result Piece Refusal → Type 0
+abbrev pub CutOffIn : GraphTables → Spot → List ℕ → List ℕ → List ℕ → List ℕ → List ℕ → List ℕ → Result Piece Narrow → Type 0
 CutOffIn g = CutOff g.ends.counts g.drivers.now g.ends.outputs.now g.ends.dffs.now g.ends.rams.now

@@ -16,7 +16,7 @@ ghost use Rattle.splits.specs.State.{Idle, PreparedIn, WorkedOutIn, CutOffIn};
 use joins::{join_all, read_taken};
 use levels::{level_all, visit_left};
 use picks::{hand_on, take_all};
-use rules::{GraphTables, Refusal};
+use rules::GraphTables;
 
 // The visits, the levels and the readers; how many pins are listed.
 fn gather(g: GraphTables, work: &mut [u32], m: usize, left: usize) -> usize
@@ -73,14 +73,20 @@ pub struct Piece {
     pub taken: usize,
 }
 
-// One split of the endpoints left. It is refused where they read nothing, and where a table has too little room.
+// A table has too little room; how many pins are listed all the same.
+#[derive(Clone, Copy)]
+pub struct Narrow {
+    pub listed: usize,
+}
+
+// One split of the endpoints left, also where they read nothing.
 pub fn cut(
     g: GraphTables,
     work: &mut [u32],
     handed: &mut [u32],
     taken: &mut [u32],
     at: Spot,
-) -> Result<Piece, Refusal>
+) -> Result<Piece, Narrow>
     requires lent { LentIn g.ends }
     requires reads_fit { ReadsFitIn g.ends at.m }
     requires idle { Idle g.drivers.now at.m (endpoints g.ends.counts) work.old at.left }
@@ -92,16 +98,13 @@ pub fn cut(
     let d = at.d;
     let first = at.taken;
     let k = gather(g, work, m, at.left);
-    if k == 0 {
-        return Err(Refusal::NothingRead);
-    }
     let Some(t) = take_all(g.ends, work, m, d, at.left, taken, first) else {
-        return Err(Refusal::Room);
+        return Err(Narrow { listed: k });
     };
     let count = t - first;
     let size = work_out(g, taken, first, count, work, m, d, k);
     let Some(h) = hand_on(work, m, size, handed, at.handed) else {
-        return Err(Refusal::Room);
+        return Err(Narrow { listed: k });
     };
     Ok(Piece {
         listed: k,

@@ -9,7 +9,7 @@ use native.Mathlib.Omega.{arith}
 use lib.ListN.{length, get_or, drop, length-append}
 use lib.Seq.{drop-cons, drop-length}
 use borrow.Author.Tests.{le-leb, ltb-true, ltb-false}
-use Rattle.std.specs.Prelude.{Option, None, Some, if◌then◌else◌}
+use Rattle.std.specs.Prelude.{Option, None, Some, Result, Ok, Err, ◌⊎◌, if◌then◌else◌}
 use Rattle.laws.specs.Tests.{◌<?◌}
 use Rattle.laws.specs.Lists.{member, keep, every, over, is_nil, upto}
 use Rattle.laws.specs.Search.{level}
@@ -20,7 +20,7 @@ use Rattle.laws.proofs.Ranges.{map_past, length-map-upto}
 use Rattle.laws.proofs.Bags.{nil_is, flat-joined}
 use Rattle.laws.proofs.Words.{part_none, part_length}
 use Rattle.rules.specs.declared.GraphCounts.{GraphCounts}
-use Rattle.rules.specs.declared.Refusal.{Refusal}
+use Rattle.rules.specs.declared.Refusal.TheVariants.{NothingRead, Room}
 use Rattle.rules.specs.declared.Driver.TheVariants.{Constant}
 use Rattle.rules.specs.Graph.{Graph, operands, driver_of}
 use Rattle.rules.specs.Tables.{driver_or, decode_at, record_in, ram_in, graph_in, end_marker, row_words, all_handed, all_taken}
@@ -37,8 +37,12 @@ use Rattle.reads.specs.Reads.{Lent}
 use Rattle.levels.proofs.Ranked.{level_le}
 use Rattle.turns.specs.declared.Run.{Run}
 use Rattle.turns.specs.declared.Plan.{Plan}
-use Rattle.turns.specs.State.{Turn, stage_in, Ended, GoesOn, Unmade as TurnUnmade, nothing as turn_nothing, narrow as turn_narrow, Stopped}
-use Rattle.stages.specs.State.{LevelAt, level as at_level, none_left, Start, stages_in, Lengths, Laid, Unmade, nothing, short, Unlaid}
+use Rattle.turns.specs.declared.Step.{Step}
+use Rattle.turns.specs.declared.Step.TheVariants.{More, Last}
+use Rattle.turns.specs.declared.Outcome.{Outcome}
+use Rattle.turns.specs.declared.NoRoom.{NoRoom}
+use Rattle.turns.specs.State.{Turn, stage_in, Ended, GoesOn, Stopped, Stepped, Turned}
+use Rattle.stages.specs.State.{LevelAt, level as at_level, none_left, Start, stages_in, Lengths, Short, Laid, nothing, short, Unlaid}
 
 -- ---- the level of a stage
 pub level-none : (splits : List ℕ) (i lower : ℕ) → length splits ≤ i → LevelAt splits i lower 4294967295 4294967295
@@ -94,6 +98,11 @@ climb_next b splits i e l =
     omega (arith, ltb-true b (get_or splits (suc i) 0) (and_l (b <? get_or splits (suc i) 0) (rising (get_or splits (suc i) 0 ∷ drop (suc (suc i)) splits)) d), ap (λ (k : ℕ). get_or splits k 0) (add-one i))
 
 -- ---- turn by turn
+-- whether something is read, whether or not there was room
+abbrev pub read_by : Result Outcome NoRoom → Bool
+read_by (Ok o) = o.read
+read_by (Err e) = e.read
+
 pub record Staging (c : GraphCounts) (ws os ds rs splits w₀ l₀ h₀ t₀ w l h t : List ℕ) (lower left r nh nt i : ℕ) : Type 0 where
   pub turn : Turn c ws os ds rs w l h t (record { lower = lower; left = left; rows = r; handed = nh; taken = nt })
   pub inside : i ≤ length splits
@@ -266,20 +275,34 @@ module _ (c : GraphCounts) (ws os ds rs splits w₀ l₀ h₀ t₀ w l h t : Lis
       lengths_by : length w' ≡ length w → length l' ≡ length l → length h' ≡ length h → length t' ≡ length t → Lengths w₀ l₀ h₀ t₀ w' l' h' t'
       lengths_by lw ll lh lt = record { work = lw ∙ s.same_work; rows = ll ∙ s.same_rows; handed = lh ∙ s.same_handed; taken = lt ∙ s.same_taken }
 
-      pub run_refused : (e : Refusal) → Stopped c ws os ds rs w l h t at d w' l' h' t' e → Unlaid c ws os ds rs splits w₀ l₀ h₀ t₀ w' l' h' t' e
-      run_refused e u = record { why = by_reason u.why; lengths = lengths_by u.work_long u.rows_long u.handed_long u.taken_long }
-        where
-          by_reason : TurnUnmade c ws os ds rs w l h t at d e → Unmade c ws os ds rs splits l₀ h₀ t₀ e
-          by_reason (turn_nothing n v) = nothing (nothing_at_first n) v
-          by_reason (turn_narrow y (inl a) v) = short (something y) (first_row (λ u rest e. inl (omega (arith, a, s.same_rows, (sizes u rest e).0)))) v
-          by_reason (turn_narrow y (inr (inl a)) v) = short (something y) (first_row (λ u rest e. inr (inl (omega (arith, a, s.same_handed, (sizes u rest e).1))))) v
-          by_reason (turn_narrow y (inr (inr a)) v) = short (something y) (first_row (λ u rest e. inr (inr (omega (arith, a, s.same_taken, (sizes u rest e).2))))) v
+      told_step : (b : Bool) (x : Step) → Stepped c ws os ds rs w l h t at upper d w' l' h' t' b x → (b ≡ something_read g L) × (length w' ≡ length w) × (length l' ≡ length l) × (length h' ≡ length h) × (length t' ≡ length t)
+      told_step b (Last p) q = (q.read, q.work_long, q.rows.long, q.handed.long, q.taken.long)
+      told_step b (More x) q = (q.read, q.work_long, q.rows.long, q.handed.long, q.taken.long)
 
-      pub run_done : (p : Plan) → Ended c ws os ds rs w l h t at d w' l' h' t' p → Laid c ws os ds rs splits w₀ l₀ h₀ t₀ w' l' h' t' p
-      run_done p q =
+      told : (r : Result Outcome NoRoom) → Turned c ws os ds rs w l h t at upper d w' l' h' t' r → (read_by r ≡ something_read g L) × (length w' ≡ length w) × (length l' ≡ length l) × (length h' ≡ length h) × (length t' ≡ length t)
+      told (Ok o) q = told_step o.read o.step q
+      told (Err e) u = (u.read, u.work_long, u.rows_long, u.handed_long, u.taken_long)
+
+      -- nothing is read, whether or not there is room
+      pub run_nothing : (r : Result Outcome NoRoom) → Turned c ws os ds rs w l h t at upper d w' l' h' t' r → (b : Bool) → b ≡ read_by r → b ≡ false → Unlaid c ws os ds rs splits w₀ l₀ h₀ t₀ w' l' h' t' NothingRead
+      run_nothing r q b e n = record {
+        why = nothing (nothing_at_first (sym (told r q).0 ∙ sym e ∙ n)) refl;
+        lengths = lengths_by (told r q).1 (told r q).2 (told r q).3 (told r q).4;
+      }
+
+      pub run_narrow : (e : NoRoom) → Stopped c ws os ds rs w l h t at d w' l' h' t' e → (b : Bool) → b ≡ e.read → b ≡ true → Unlaid c ws os ds rs splits w₀ l₀ h₀ t₀ w' l' h' t' Room
+      run_narrow e u b be y = record { why = short (something (sym u.read ∙ sym be ∙ y)) (by_room u.narrow) refl; lengths = lengths_by u.work_long u.rows_long u.handed_long u.taken_long }
+        where
+          by_room : (length l < r + 4) ⊎ ((length h < nh + length S.handed) ⊎ (length t < nt + length S.taken)) → Short (stages_in c ws os ds rs splits) l₀ h₀ t₀
+          by_room (inl a) = first_row (λ u rest e. inl (omega (arith, a, s.same_rows, (sizes u rest e).0)))
+          by_room (inr (inl a)) = first_row (λ u rest e. inr (inl (omega (arith, a, s.same_handed, (sizes u rest e).1))))
+          by_room (inr (inr a)) = first_row (λ u rest e. inr (inr (omega (arith, a, s.same_taken, (sizes u rest e).2))))
+
+      pub run_done : (b : Bool) (p : Plan) → Ended c ws os ds rs w l h t at d w' l' h' t' b p → b ≡ true → Laid c ws os ds rs splits w₀ l₀ h₀ t₀ w' l' h' t' p
+      run_done b p q y =
           let all : stages_in c ws os ds rs splits ≡ s.done ++ (row lower None S ∷ []) = s.rest ∙ ap (λ (v : List Row). s.done ++ v) ((rest_is lv).0 q.none_handed) in
           record {
-            read = something q.read;
+            read = something (sym q.read ∙ y);
             rows_open = q.rows.ready;
             handed_open = q.handed.ready;
             taken_open = q.taken.ready;
@@ -289,9 +312,9 @@ module _ (c : GraphCounts) (ws os ds rs splits w₀ l₀ h₀ t₀ w l h t : Lis
             lengths = lengths_by q.work_long q.rows.long q.handed.long q.taken.long;
           }
 
-      pub run_goes_on : (x : Run) → GoesOn c ws os ds rs w l h t at upper d w' l' h' t' x
+      pub run_goes_on : (b : Bool) (x : Run) → GoesOn c ws os ds rs w l h t at upper d w' l' h' t' b x → b ≡ true
           → Staging c ws os ds rs splits w₀ l₀ h₀ t₀ w' l' h' t' x.lower x.left x.rows x.handed x.taken (i + 1)
-      run_goes_on x q =
+      run_goes_on b x q y =
           let n = (rest_is lv).1 q.some_handed in
           let li : i < length splits = n.0 in
           let eu : upper ≡ get_or splits i 0 = n.1 in
@@ -321,7 +344,7 @@ module _ (c : GraphCounts) (ws os ds rs splits w₀ l₀ h₀ t₀ w l h t : Lis
             handed_are = q.handed.words ∙ ap (λ (v : List ℕ). v ++ S.handed) s.handed_are ∙ sym (handed_more (Some upper));
             taken_are = q.taken.words ∙ ap (λ (v : List ℕ). v ++ S.taken) s.taken_are ∙ sym (taken_more (Some upper));
             read = λ _. ap (something_read g) q.left ∙ reads_on q.some_handed;
-            first = λ _. something q.read;
+            first = λ _. something (sym q.read ∙ y);
             start = λ e. absurd (omega (arith, e));
             lengths = ln;
             same_work = ln.work;

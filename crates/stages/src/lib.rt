@@ -53,8 +53,18 @@ pub fn run(
     };
     for i in 0..=splits.len() {
         let b = level_at(splits, i, at.lower);
-        let step = stage(g, work, rows, handed, taken, at, b.upper, b.d)?;
-        match step {
+        let r = stage(g, work, rows, handed, taken, at, b.upper, b.d);
+        let read = match &r {
+            Ok(outcome) => outcome.read,
+            Err(e) => e.read,
+        };
+        if !read {
+            return Err(Refusal::NothingRead);
+        }
+        let Ok(outcome) = r else {
+            return Err(Refusal::Room);
+        };
+        match outcome.step {
             Step::More(next) => at = next,
             Step::Last(plan) => return Ok(plan),
         }

@@ -1,13 +1,12 @@
 -- A stage by its split, its row and what is settled.
 use mathlib.Core.Path.{◌≡◌, refl, sym, ap, subst, ◌∙◌}
 use mathlib.Core.Logic.{inl, inr}
-use mathlib.Core.Bool.{true, false}
+use mathlib.Core.Bool.{false}
 use mathlib.Core.List.{List, [], ◌∷◌, ◌++◌}
 use Prim.Native.Nat.{ℕ, ◌+◌, ◌-◌, ◌*◌, ◌<◌, ◌≤◌}
 use native.Mathlib.Omega.{arith}
 use lib.ListN.{length, get_or}
-use Rattle.std.specs.Prelude.{Some, if◌then◌else◌}
-use borrow.Author.Tests.{lt-ltb, le-ltb}
+use Rattle.std.specs.Prelude.{Some, ◌⊎◌, if◌then◌else◌}
 use Rattle.laws.specs.Tests.{◌<?◌, one}
 use Rattle.laws.specs.Lists.{count, member, over, is_nil}
 use Rattle.laws.specs.Sets.{remove}
@@ -17,8 +16,6 @@ use Rattle.laws.proofs.Bags.{count-append, of_append, is_member, member_true, me
 use Rattle.laws.proofs.Indices.{at_in}
 use Rattle.laws.proofs.Words.{part_at, part_in}
 use Rattle.rules.specs.declared.GraphCounts.{GraphCounts}
-use Rattle.rules.specs.declared.Refusal.{Refusal}
-use Rattle.rules.specs.declared.Refusal.TheVariants.{Room}
 use Rattle.rules.specs.Tables.{graph_in, end_marker}
 use Rattle.rules.specs.Stages.{Stage}
 use Rattle.rules.specs.Refusals.{something_read}
@@ -33,12 +30,13 @@ use Rattle.picks.specs.Tables.{Full, Pushed}
 use Rattle.clears.specs.State.{Used}
 use Rattle.splits.specs.declared.Spot.{Spot}
 use Rattle.splits.specs.declared.Piece.{Piece}
-use Rattle.splits.specs.State.{split_in, order_in, Idle, Cut, Uncut, Unmade as CutUnmade, nothing as cut_nothing, narrow as cut_narrow}
+use Rattle.splits.specs.declared.Narrow.{Narrow}
+use Rattle.splits.specs.State.{split_in, order_in, Idle, Cut, Uncut}
 use Rattle.settles.specs.State.{Settled}
 use Rattle.settles.proofs.Settles.{set_same}
 use Rattle.asked.proofs.Graphs.{stops_members, split_is, nothing_read}
 use Rattle.turns.specs.declared.Run.{Run}
-use Rattle.turns.specs.State.{Before, Turn, stage_in, Ended, GoesOn, Unmade, nothing, narrow, Stopped}
+use Rattle.turns.specs.State.{Before, Turn, stage_in, Ended, GoesOn, Stopped}
 
 pins_are : (c : GraphCounts) (ws os ds rs : List ℕ) → Rattle.rules.specs.Graph.pin_count (graph_in c (words_of ws os ds rs)) ≡ c.pins
 pins_are c ws os ds rs = omega (arith, Rattle.laws.proofs.Ranges.length-map-upto (λ u. Rattle.rules.specs.Tables.driver_or (Rattle.rules.specs.Tables.decode_at ws u)) (c.pins + 1))
@@ -63,25 +61,32 @@ module _ (c : GraphCounts) (ws os ds rs w l h t : List ℕ) (at : Run) (upper d 
   abbrev S : Stage
   S = stage_in c ws os ds rs w h at d
 
-  read_is : (0 <? length (order_in c ws os ds rs (c.pins + 1) (part w (8 * (c.pins + 1)) at.left) (stops_of w (c.pins + 1)))) ≡ something_read (graph_in c (words_of ws os ds rs)) (part w (8 * (c.pins + 1)) at.left)
-  read_is = nothing_read c ws os ds rs L (stops_of w (c.pins + 1))
+  abbrev cut_stage : Stage
+  cut_stage = split_in c ws os ds rs (c.pins + 1) (part w (8 * (c.pins + 1)) at.left) (stops_of w (c.pins + 1)) d
 
-  was_read : 0 < length (order_in c ws os ds rs (c.pins + 1) (part w (8 * (c.pins + 1)) at.left) (stops_of w (c.pins + 1))) → something_read (graph_in c (words_of ws os ds rs)) (part w (8 * (c.pins + 1)) at.left) ≡ true
-  was_read n = sym read_is ∙ lt-ltb 0 (length (order_in c ws os ds rs (c.pins + 1) (part w (8 * (c.pins + 1)) at.left) (stops_of w (c.pins + 1)))) n
+  was_read : (n : ℕ) → n ≡ length (order_in c ws os ds rs (c.pins + 1) (part w (8 * (c.pins + 1)) at.left) (stops_of w (c.pins + 1))) → (0 <? n) ≡ something_read (graph_in c (words_of ws os ds rs)) (part w (8 * (c.pins + 1)) at.left)
+  was_read n e = ap (λ (k : ℕ). 0 <? k) e ∙ nothing_read c ws os ds rs L (stops_of w (c.pins + 1))
 
   module _ (w₁ h₁ t₁ : List ℕ) where
-    -- the split is refused, and so is the stage
-    pub turn_refused : (e : Refusal) → Uncut c ws os ds rs spot w h t w₁ h₁ t₁ e → Stopped c ws os ds rs w l h t at d w₁ l h₁ t₁ e
-    turn_refused e u = record { why = by_reason u.why; work_long = u.work_long; rows_long = refl; handed_long = u.handed_long; taken_long = u.taken_long }
+    -- the split has too little room, and so has the stage
+    pub turn_narrow : (e : Narrow) → Uncut c ws os ds rs spot w h t w₁ h₁ t₁ e → Stopped c ws os ds rs w l h t at d w₁ l h₁ t₁ (record { read = 0 <? e.listed })
+    turn_narrow e u = record {
+      read = was_read e.listed u.listed;
+      narrow = by_room u.narrow;
+      work_long = u.work_long;
+      rows_long = refl;
+      handed_long = u.handed_long;
+      taken_long = u.taken_long;
+    }
       where
-        by_reason : CutUnmade c ws os ds rs spot w h t e → Unmade c ws os ds rs w l h t at d e
-        by_reason (cut_nothing z v) = nothing (sym read_is ∙ le-ltb 0 (length (order_in c ws os ds rs (c.pins + 1) (part w (8 * (c.pins + 1)) at.left) (stops_of w (c.pins + 1)))) (omega (arith, z))) v
-        by_reason (cut_narrow n (inl a) v) = narrow (was_read n) (inr (inl (subst (λ (k : Stage). length h < at.handed + length k.handed) stage_is a))) v
-        by_reason (cut_narrow n (inr a) v) = narrow (was_read n) (inr (inr (subst (λ (k : Stage). length t < at.taken + length k.taken) stage_is a))) v
+        by_room : (length h < at.handed + length cut_stage.handed) ⊎ (length t < at.taken + length cut_stage.taken)
+            → (length l < at.rows + 4) ⊎ ((length h < at.handed + length S.handed) ⊎ (length t < at.taken + length S.taken))
+        by_room (inl a) = inr (inl (subst (λ (k : Stage). length h < at.handed + length k.handed) stage_is a))
+        by_room (inr a) = inr (inr (subst (λ (k : Stage). length t < at.taken + length k.taken) stage_is a))
 
     module _ (r : Piece) (q : Cut c ws os ds rs spot w h t w₁ h₁ t₁ r) where
-      some_read : something_read (graph_in c (words_of ws os ds rs)) (part w (8 * (c.pins + 1)) at.left) ≡ true
-      some_read = was_read (omega (arith, q.listed, q.some))
+      read_is : (0 <? r.listed) ≡ something_read (graph_in c (words_of ws os ds rs)) (part w (8 * (c.pins + 1)) at.left)
+      read_is = was_read r.listed q.listed
 
       ph : Pushed h at.handed S.handed h₁ r.handed
       ph = subst (λ (k : Stage). Pushed h at.handed k.handed h₁ r.handed) stage_is q.handed
@@ -117,9 +122,9 @@ module _ (c : GraphCounts) (ws os ds rs w l h t : List ℕ) (at : Run) (upper d 
             empty (y ∷ x) e = absurd (omega arith)
 
         pub turn_last : (l₁ : List ℕ) (n : ℕ) → Pushed l at.rows (at.lower ∷ end_marker ∷ 0 ∷ (r.taken - at.taken) ∷ []) l₁ n
-            → Ended c ws os ds rs w l h t at d w₁ l₁ h₁ t₁ (record { rows = n; handed = r.handed; taken = r.taken })
+            → Ended c ws os ds rs w l h t at d w₁ l₁ h₁ t₁ (0 <? r.listed) (record { rows = n; handed = r.handed; taken = r.taken })
         turn_last l₁ n p = record {
-          read = some_read;
+          read = read_is;
           none_handed = nothing_handed;
           handed = ph;
           taken = pt;
@@ -127,8 +132,8 @@ module _ (c : GraphCounts) (ws os ds rs w l h t : List ℕ) (at : Run) (upper d 
           work_long = q.stays.long;
         }
 
-        pub turn_last_full : (l₁ : List ℕ) → Full l at.rows (at.lower ∷ end_marker ∷ 0 ∷ (r.taken - at.taken) ∷ []) l₁ → Stopped c ws os ds rs w l h t at d w₁ l₁ h₁ t₁ Room
-        turn_last_full l₁ f = record { why = narrow some_read (inl f.small) refl; work_long = q.stays.long; rows_long = f.long; handed_long = ph.long; taken_long = pt.long }
+        pub turn_last_full : (l₁ : List ℕ) → Full l at.rows (at.lower ∷ end_marker ∷ 0 ∷ (r.taken - at.taken) ∷ []) l₁ → Stopped c ws os ds rs w l h t at d w₁ l₁ h₁ t₁ (record { read = 0 <? r.listed })
+        turn_last_full l₁ f = record { read = read_is; narrow = inl f.small; work_long = q.stays.long; rows_long = f.long; handed_long = ph.long; taken_long = pt.long }
 
       -- ---- any other
       h_part : part h₁ at.handed (r.handed - at.handed) ≡ S.handed
@@ -149,8 +154,8 @@ module _ (c : GraphCounts) (ws os ds rs w l h t : List ℕ) (at : Run) (upper d 
       pub turn_used : Used (c.pins + 1) w₁ r.listed r.size
       turn_used = q.used
 
-      pub turn_row_full : (l₁ : List ℕ) → Full l at.rows (at.lower ∷ upper ∷ (r.handed - at.handed) ∷ (r.taken - at.taken) ∷ []) l₁ → Stopped c ws os ds rs w l h t at d w₁ l₁ h₁ t₁ Room
-      turn_row_full l₁ f = record { why = narrow some_read (inl f.small) refl; work_long = q.stays.long; rows_long = f.long; handed_long = ph.long; taken_long = pt.long }
+      pub turn_row_full : (l₁ : List ℕ) → Full l at.rows (at.lower ∷ upper ∷ (r.handed - at.handed) ∷ (r.taken - at.taken) ∷ []) l₁ → Stopped c ws os ds rs w l h t at d w₁ l₁ h₁ t₁ (record { read = 0 <? r.listed })
+      turn_row_full l₁ f = record { read = read_is; narrow = inl f.small; work_long = q.stays.long; rows_long = f.long; handed_long = ph.long; taken_long = pt.long }
 
       module _ (ends : ℕ) (ee : ends ≡ endpoints c) where
         pub turn_set : SetIn w₁ (8 * (c.pins + 1)) ends at.left
@@ -224,9 +229,9 @@ module _ (c : GraphCounts) (ws os ds rs w l h t : List ℕ) (at : Run) (upper d 
                   (omega (arith, T.idle.lefts.long, T.idle.lefts.few)) (λ j lj uj. q.stays.rest j lj)
 
           pub turn_more : (l₁ : List ℕ) (n : ℕ) → Pushed l at.rows (at.lower ∷ upper ∷ (r.handed - at.handed) ∷ (r.taken - at.taken) ∷ []) l₁ n
-              → GoesOn c ws os ds rs w l h t at upper d w₂ l₁ h₁ t₁ (record { lower = upper; left = left; rows = n; handed = r.handed; taken = r.taken })
+              → GoesOn c ws os ds rs w l h t at upper d w₂ l₁ h₁ t₁ (0 <? r.listed) (record { lower = upper; left = left; rows = n; handed = r.handed; taken = r.taken })
           turn_more l₁ n p = record {
-            read = some_read;
+            read = read_is;
             some_handed = some_handed;
             handed = ph;
             taken = pt;

@@ -1,12 +1,10 @@
 -- One stage: where it begins and what it leaves.
-use Rattle.std.specs.Prelude.{Some, Result, Ok, Err, ◌≡◌, ◌⊎◌, true, false, List, [], ◌∷◌, ℕ, ◌+◌, ◌*◌, ◌<◌, ◌≤◌, length}
+use Rattle.std.specs.Prelude.{Some, Result, Ok, Err, ◌≡◌, ◌⊎◌, Bool, false, List, [], ◌∷◌, ℕ, ◌+◌, ◌*◌, ◌<◌, ◌≤◌, length}
 use Rattle.laws.specs.Lists.{count, over, is_nil}
 use Rattle.laws.specs.Sets.{remove}
 use Rattle.laws.specs.Words.{part}
 use Rattle.rules.specs.declared.GraphTables.{GraphTables}
 use Rattle.rules.specs.declared.GraphCounts.{GraphCounts}
-use Rattle.rules.specs.declared.Refusal.{Refusal}
-use Rattle.rules.specs.declared.Refusal.TheVariants.{NothingRead, Room}
 use Rattle.rules.specs.Tables.{graph_in, end_marker}
 use Rattle.rules.specs.Stages.{Stage, split}
 use Rattle.rules.specs.Refusals.{something_read}
@@ -20,6 +18,8 @@ use Rattle.turns.specs.declared.Run.{Run}
 use Rattle.turns.specs.declared.Plan.{Plan}
 use Rattle.turns.specs.declared.Step.{Step}
 use Rattle.turns.specs.declared.Step.TheVariants.{More, Last}
+use Rattle.turns.specs.declared.Outcome.{Outcome}
+use Rattle.turns.specs.declared.NoRoom.{NoRoom}
 
 -- the pins handed on before are those of the table, and they are the stops
 pub record Before (m : ℕ) (w h : List ℕ) (n : ℕ) : Type 0 where
@@ -40,9 +40,9 @@ pub record Turn (c : GraphCounts) (ws os ds rs w l h t : List ℕ) (at : Run) : 
 unfoldable pub stage_in : GraphCounts → List ℕ → List ℕ → List ℕ → List ℕ → List ℕ → List ℕ → Run → ℕ → Stage
 stage_in c ws os ds rs w h at d = split (graph_in c (words_of ws os ds rs)) (part w (8 * (c.pins + 1)) at.left) (part h 0 at.handed) (Some d)
 
--- the last stage: it hands nothing on
-pub record Ended (c : GraphCounts) (ws os ds rs w l h t : List ℕ) (at : Run) (d : ℕ) (w' l' h' t' : List ℕ) (r : Plan) : Type 0 where
-  pub read : something_read (graph_in c (words_of ws os ds rs)) (part w (8 * (c.pins + 1)) at.left) ≡ true
+-- the last stage: it hands nothing on; what it told is whether something is read
+pub record Ended (c : GraphCounts) (ws os ds rs w l h t : List ℕ) (at : Run) (d : ℕ) (w' l' h' t' : List ℕ) (told : Bool) (r : Plan) : Type 0 where
+  pub read : told ≡ something_read (graph_in c (words_of ws os ds rs)) (part w (8 * (c.pins + 1)) at.left)
   pub none_handed : (stage_in c ws os ds rs w h at d).handed ≡ []
   pub handed : Pushed h at.handed (stage_in c ws os ds rs w h at d).handed h' r.handed
   pub taken : Pushed t at.taken (stage_in c ws os ds rs w h at d).taken t' r.taken
@@ -50,8 +50,8 @@ pub record Ended (c : GraphCounts) (ws os ds rs w l h t : List ℕ) (at : Run) (
   pub work_long : length w' ≡ length w
 
 -- any other stage, and where the next one begins
-pub record GoesOn (c : GraphCounts) (ws os ds rs w l h t : List ℕ) (at : Run) (upper d : ℕ) (w' l' h' t' : List ℕ) (r : Run) : Type 0 where
-  pub read : something_read (graph_in c (words_of ws os ds rs)) (part w (8 * (c.pins + 1)) at.left) ≡ true
+pub record GoesOn (c : GraphCounts) (ws os ds rs w l h t : List ℕ) (at : Run) (upper d : ℕ) (w' l' h' t' : List ℕ) (told : Bool) (r : Run) : Type 0 where
+  pub read : told ≡ something_read (graph_in c (words_of ws os ds rs)) (part w (8 * (c.pins + 1)) at.left)
   pub some_handed : is_nil (stage_in c ws os ds rs w h at d).handed ≡ false
   pub handed : Pushed h at.handed (stage_in c ws os ds rs w h at d).handed h' r.handed
   pub taken : Pushed t at.taken (stage_in c ws os ds rs w h at d).taken t' r.taken
@@ -62,30 +62,29 @@ pub record GoesOn (c : GraphCounts) (ws os ds rs w l h t : List ℕ) (at : Run) 
   pub before : Before (c.pins + 1) w' h' r.handed
   pub work_long : length w' ≡ length w
 
--- why there is no stage: nothing is read, or a table has too little room
-pub data Unmade (c : GraphCounts) (ws os ds rs w l h t : List ℕ) (at : Run) (d : ℕ) (e : Refusal) : Type 0 where
-  nothing : something_read (graph_in c (words_of ws os ds rs)) (part w (8 * (c.pins + 1)) at.left) ≡ false → e ≡ NothingRead → Unmade c ws os ds rs w l h t at d e
-  narrow : something_read (graph_in c (words_of ws os ds rs)) (part w (8 * (c.pins + 1)) at.left) ≡ true
-      → (length l < at.rows + 4)
+-- a table has too little room; whether something is read is told all the same
+pub record Stopped (c : GraphCounts) (ws os ds rs w l h t : List ℕ) (at : Run) (d : ℕ) (w' l' h' t' : List ℕ) (e : NoRoom) : Type 0 where
+  pub read : e.read ≡ something_read (graph_in c (words_of ws os ds rs)) (part w (8 * (c.pins + 1)) at.left)
+  pub narrow : (length l < at.rows + 4)
       ⊎ ((length h < at.handed + length (stage_in c ws os ds rs w h at d).handed) ⊎ (length t < at.taken + length (stage_in c ws os ds rs w h at d).taken))
-      → e ≡ Room → Unmade c ws os ds rs w l h t at d e
-
-pub record Stopped (c : GraphCounts) (ws os ds rs w l h t : List ℕ) (at : Run) (d : ℕ) (w' l' h' t' : List ℕ) (e : Refusal) : Type 0 where
-  pub why : Unmade c ws os ds rs w l h t at d e
   pub work_long : length w' ≡ length w
   pub rows_long : length l' ≡ length l
   pub handed_long : length h' ≡ length h
   pub taken_long : length t' ≡ length t
 
+-- the last stage or any other
+abbrev pub Stepped : GraphCounts → List ℕ → List ℕ → List ℕ → List ℕ → List ℕ → List ℕ → List ℕ → List ℕ → Run → ℕ → ℕ → List ℕ → List ℕ → List ℕ → List ℕ → Bool → Step → Type 0
+Stepped c ws os ds rs w l h t at upper d w' l' h' t' told (Last r) = Ended c ws os ds rs w l h t at d w' l' h' t' told r
+Stepped c ws os ds rs w l h t at upper d w' l' h' t' told (More r) = GoesOn c ws os ds rs w l h t at upper d w' l' h' t' told r
+
 -- what a stage leaves
-abbrev pub Turned : GraphCounts → List ℕ → List ℕ → List ℕ → List ℕ → List ℕ → List ℕ → List ℕ → List ℕ → Run → ℕ → ℕ → List ℕ → List ℕ → List ℕ → List ℕ → Result Step Refusal → Type 0
-Turned c ws os ds rs w l h t at upper d w' l' h' t' (Ok (Last r)) = Ended c ws os ds rs w l h t at d w' l' h' t' r
-Turned c ws os ds rs w l h t at upper d w' l' h' t' (Ok (More r)) = GoesOn c ws os ds rs w l h t at upper d w' l' h' t' r
+abbrev pub Turned : GraphCounts → List ℕ → List ℕ → List ℕ → List ℕ → List ℕ → List ℕ → List ℕ → List ℕ → Run → ℕ → ℕ → List ℕ → List ℕ → List ℕ → List ℕ → Result Outcome NoRoom → Type 0
+Turned c ws os ds rs w l h t at upper d w' l' h' t' (Ok o) = Stepped c ws os ds rs w l h t at upper d w' l' h' t' o.read o.step
 Turned c ws os ds rs w l h t at upper d w' l' h' t' (Err e) = Stopped c ws os ds rs w l h t at d w' l' h' t' e
 
 -- ---- the same of a lent graph
 abbrev pub TurnIn : GraphTables → List ℕ → List ℕ → List ℕ → List ℕ → Run → Type 0
 TurnIn g = Turn g.ends.counts g.drivers.now g.ends.outputs.now g.ends.dffs.now g.ends.rams.now
 
-abbrev pub TurnedIn : GraphTables → List ℕ → List ℕ → List ℕ → List ℕ → Run → ℕ → ℕ → List ℕ → List ℕ → List ℕ → List ℕ → Result Step Refusal → Type 0
+abbrev pub TurnedIn : GraphTables → List ℕ → List ℕ → List ℕ → List ℕ → Run → ℕ → ℕ → List ℕ → List ℕ → List ℕ → List ℕ → Result Outcome NoRoom → Type 0
 TurnedIn g = Turned g.ends.counts g.drivers.now g.ends.outputs.now g.ends.dffs.now g.ends.rams.now

@@ -4,7 +4,7 @@
 ghost use Rattle.std.specs.Prelude.{◌≡◌, ◌+◌, ◌*◌, ◌<◌, ◌≤◌};
 ghost use Rattle.turns.specs.State.{TurnIn, TurnedIn};
 
-use rules::{GraphTables, Refusal};
+use rules::GraphTables;
 use settles::{push_row, settle};
 use splits::{Spot, cut};
 use subsets::num_endpoint_groups;
@@ -34,8 +34,21 @@ pub enum Step {
     Last(Plan),
 }
 
-// A stage by a difference d of levels. A stage that hands nothing on is the last and has no upper end. It is refused where
-// nothing is read, and where a table has too little room.
+// Whether something was read stands beside the step: what is promised of a stage in which nothing is read needs it.
+#[derive(Clone, Copy)]
+pub struct Outcome {
+    pub read: bool,
+    pub step: Step,
+}
+
+// A table has too little room; whether something was read all the same.
+#[derive(Clone, Copy)]
+pub struct NoRoom {
+    pub read: bool,
+}
+
+// A stage by a difference d of levels, also where nothing is read. A stage that hands nothing on is the last and has no
+// upper end.
 pub fn stage(
     g: GraphTables,
     work: &mut [u32],
@@ -45,7 +58,7 @@ pub fn stage(
     at: Run,
     upper: u32,
     d: u32,
-) -> Result<Step, Refusal>
+) -> Result<Outcome, NoRoom>
     requires { TurnIn g work.old rows.old handed.old taken.old at }
     ensures { TurnedIn g.entry work.old rows.old handed.old taken.old at upper d work.new rows.new handed.new taken.new result }
 {
@@ -58,32 +71,42 @@ pub fn stage(
         handed: at.handed,
         taken: at.taken,
     };
-    let r = cut(g, work, handed, taken, spot)?;
+    let r = match cut(g, work, handed, taken, spot) {
+        Ok(piece) => piece,
+        Err(narrow) => {
+            return Err(NoRoom {
+                read: 0 < narrow.listed,
+            });
+        }
+    };
+    let read = 0 < r.listed;
     let pins = r.handed - at.handed;
     let count = r.taken - at.taken;
     let taking = count as u32;
     if pins == 0 {
         let Some(q) = push_row(rows, at.rows, at.lower, u32::MAX, 0, taking) else {
-            return Err(Refusal::Room);
+            return Err(NoRoom { read });
         };
-        return Ok(Step::Last(Plan {
+        let step = Step::Last(Plan {
             rows: q,
             handed: r.handed,
             taken: r.taken,
-        }));
+        });
+        return Ok(Outcome { read, step });
     }
     let handing = pins as u32;
     let Some(q) = push_row(rows, at.rows, at.lower, upper, handing, taking) else {
-        return Err(Refusal::Room);
+        return Err(NoRoom { read });
     };
     let left = settle(
         handed, at.handed, pins, taken, at.taken, count, work, m, ends, r.listed, r.size, at.left,
     );
-    Ok(Step::More(Run {
+    let step = Step::More(Run {
         lower: upper,
         left,
         rows: q,
         handed: r.handed,
         taken: r.taken,
-    }))
+    });
+    Ok(Outcome { read, step })
 }
