@@ -2,11 +2,16 @@
 #![tactic(auto)]
 
 ghost use Rattle.std.specs.Prelude.{◌≡◌, ◌+◌, ◌*◌, ◌<◌, ◌≤◌};
+ghost use Rattle.rules.specs.Answers.{endpoints};
+ghost use Rattle.reads.specs.Reads.{LentIn};
+ghost use Rattle.levels.specs.State.{ReadsFitIn};
+ghost use Rattle.picks.specs.Tables.{Open};
+ghost use Rattle.splits.specs.State.{Idle, CutOffIn};
 ghost use Rattle.turns.specs.State.{TurnIn, TurnedIn};
 
 use rules::GraphTables;
 use settles::{push_row, settle};
-use splits::{Spot, cut};
+use splits::{Narrow, Piece, Spot, cut};
 use subsets::num_endpoint_groups;
 
 // Where the stages are: the lower end, how many endpoints are left, and how many words of the tables are used.
@@ -47,6 +52,33 @@ pub struct NoRoom {
     pub read: bool,
 }
 
+// The split of a stage of a graph with m - 1 pins.
+fn cut_at(
+    g: GraphTables,
+    work: &mut [u32],
+    handed: &mut [u32],
+    taken: &mut [u32],
+    at: Run,
+    m: usize,
+    d: u32,
+) -> Result<Piece, Narrow>
+    requires lent { LentIn g.ends }
+    requires reads_fit { ReadsFitIn g.ends m }
+    requires idle { Idle g.drivers.now m (endpoints g.ends.counts) work.old at.left }
+    requires handed_open { Open handed.old at.handed }
+    requires taken_open { Open taken.old at.taken }
+    ensures { CutOffIn g.entry (record { m = m; d = d; left = at.left; handed = at.handed; taken = at.taken }) work.old handed.old taken.old work.new handed.new taken.new result }
+{
+    let spot = Spot {
+        m,
+        d,
+        left: at.left,
+        handed: at.handed,
+        taken: at.taken,
+    };
+    cut(g, work, handed, taken, spot)
+}
+
 // A stage by a difference d of levels, also where nothing is read. A stage that hands nothing on is the last and has no
 // upper end.
 pub fn stage(
@@ -64,19 +96,11 @@ pub fn stage(
 {
     let m = (g.ends.counts.pins as usize) + 1;
     let ends = num_endpoint_groups(g.ends.counts);
-    let spot = Spot {
-        m,
-        d,
-        left: at.left,
-        handed: at.handed,
-        taken: at.taken,
-    };
-    let r = match cut(g, work, handed, taken, spot) {
+    let r = match cut_at(g, work, handed, taken, at, m, d) {
         Ok(piece) => piece,
         Err(narrow) => {
-            return Err(NoRoom {
-                read: 0 < narrow.listed,
-            });
+            let read = 0 < narrow.listed;
+            return Err(NoRoom { read });
         }
     };
     let read = 0 < r.listed;

@@ -2,8 +2,8 @@ use Rattle.turns.proofs.Turns.{turn_narrow, turn_pins, turn_count, turn_count_fe
 use native.Mathlib.Omega.{arith}
 use Rattle.turns.proofs.stage.Goals as goal
 
-pub cut-requires : goal.cut-requires
-cut-requires c = record { lent = c.requires.sound.lent; reads_fit = c.requires.sound.fit; idle = c.requires.idle; fact = c.requires.handed_open; fact_2 = c.requires.taken_open }
+pub cut_at-requires : goal.cut_at-requires
+cut_at-requires c = record { lent = c.requires.sound.lent; reads_fit = c.requires.sound.fit; idle = c.requires.idle; handed_open = c.requires.handed_open; taken_open = c.requires.taken_open }
 
 pub returns-in-Err : goal.returns-in-Err
 returns-in-Err c = let a = c.args in turn_narrow a.g.ends.counts a.g.drivers.now a.g.ends.outputs.now a.g.ends.dffs.now a.g.ends.rams.now a.work.now a.rows.now a.handed.now a.taken.now a.at a.upper a.d c.requires _ _ _ _ c.in-Err.ensures
