@@ -36,7 +36,7 @@ use Rattle.prepares.specs.Prepared.{Cleared}
 use Rattle.visits.specs.Drafting.{Drafting, Listed, pins_over, Moved, moved, stuck, Visiting, visiting, event_at, state_at, IsVisiting, Moves}
 use Rattle.visits.proofs.Places.{number_empty, start-below}
 use Rattle.visits.proofs.Holding.{dff_listed}
-use Rattle.draws.specs.Drawing.{Empty, empty, no_tally, IsEmpty}
+use Rattle.draws.specs.Drawing.{Empty, empty, no_tally, fresh}
 
 -- ---- pin 0 alone
 zero_holds : (r : ℕ) → Holds (zeros (3 * (r + 1))) (Constant ∷ [])
@@ -170,31 +170,30 @@ module _ (kinds starts list pins nets : List ℕ) (rm : Rooms) (w ws os : List �
           from g (stuck a c l y z) = stuck a c (l ∙ g.only.long) (y ∙ g.long) z
 
 -- ---- the same of a draft
-module _ (kinds starts list pins nets : List ℕ) (rm : Rooms) (d : Draft) (os : List ℕ) (e : IsEmpty (tables kinds starts list pins nets) rm d os) where
+module _ (kinds starts list pins nets : List ℕ) (rm : Rooms) (lent : Draft) (os : List ℕ) (e : Empty (tables kinds starts list pins nets) rm lent.work.now lent.drivers.now os) where
+  abbrev d : Draft
+  d = fresh (tables kinds starts list pins nets) rm lent
+
   pub draft_blank : IsBlank (length list) d
-  draft_blank = subst (Blank (length list) d.at d.work.now d.drivers.now) (sym e.none) (empty_blank kinds starts list pins nets rm d.work.now d.drivers.now os e.tables d.at e.place)
+  draft_blank = empty_blank kinds starts list pins nets rm lent.work.now lent.drivers.now os e d.at refl
 
   module _ (d₁ : Draft) where
-    none : (r : Option (Unit {0})) → AddsFlags (length list) (step1 (tables kinds starts list pins nets)) d d₁ r
-        → Flagged (length list) d.at (step1 (tables kinds starts list pins nets)) d.work.now d.drivers.now no_tally d₁.work.now d₁.drivers.now (counted r d₁.tally)
-    none r a = subst (λ (t : Tally). Flagged (length list) d.at (step1 (tables kinds starts list pins nets)) d.work.now d.drivers.now t d₁.work.now d₁.drivers.now (counted r d₁.tally)) e.none a.flagged
-
     pub draft_full : AddsFlags (length list) (step1 (tables kinds starts list pins nets)) d d₁ None
         → Moves (tables kinds starts list pins nets) rm (step2 (tables kinds starts list pins nets)) d os d₁ os None
     draft_full a = record {
       loans = a.loans;
-      moved = pins_full kinds starts list pins nets rm d.work.now d.drivers.now os e.tables d.at e.place d₁.work.now d₁.drivers.now (none None a);
+      moved = pins_full kinds starts list pins nets rm d.work.now d.drivers.now os e d.at refl d₁.work.now d₁.drivers.now a.flagged;
     }
 
     module _ (a : AddsFlags (length list) (step1 (tables kinds starts list pins nets)) d d₁ (Some tt)) where
       pub draft_begun : IsVisiting (tables kinds starts list pins nets) rm d₁ os 0
       draft_begun = subst (λ (x : ℕ). Visiting (tables kinds starts list pins nets) rm d₁.work.now d₁.drivers.now os d₁.tally x 0) (sym a.loans.place)
-          (pins_begun kinds starts list pins nets rm d.work.now d.drivers.now os e.tables d.at e.place d₁.work.now d₁.drivers.now d₁.tally (none (Some tt) a))
+          (pins_begun kinds starts list pins nets rm d.work.now d.drivers.now os e d.at refl d₁.work.now d₁.drivers.now d₁.tally a.flagged)
 
       pub draft_done : (d₂ : Draft) (os₂ : List ℕ) (r : Option (Unit {0})) → Moves (tables kinds starts list pins nets) rm (step2 (tables kinds starts list pins nets)) d₁ os d₂ os₂ r
           → Moves (tables kinds starts list pins nets) rm (step2 (tables kinds starts list pins nets)) d os d₂ os₂ r
       draft_done d₂ os₂ r m = record {
         loans = loans_trans a.loans m.loans;
-        moved = pins_done kinds starts list pins nets rm d.work.now d.drivers.now os e.tables d.at e.place d₁.work.now d₁.drivers.now d₁.tally (none (Some tt) a)
+        moved = pins_done kinds starts list pins nets rm d.work.now d.drivers.now os e d.at refl d₁.work.now d₁.drivers.now d₁.tally a.flagged
             d₂.work.now d₂.drivers.now os₂ (counted r d₂.tally) m.moved;
       }

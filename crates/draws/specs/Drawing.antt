@@ -22,13 +22,11 @@ pub data Empty (n : Netlist) (rm : Rooms) (w ws os : List ℕ) : Type 0 where
 abbrev pub no_tally : Tally
 no_tally = record { pins = 0; gates = 0; outputs = 0; dffs = 0; rams = 0 }
 
--- the same of a draft, which counts nothing yet
-pub record IsEmpty (n : Netlist) (rm : Rooms) (d : Draft) (os : List ℕ) : Type 0 where
-  pub tables : Empty n rm d.work.now d.drivers.now os
-  pub place : d.at ≡ index_at (size n) rm.pins
-  pub none : d.tally ≡ no_tally
+-- a draft at the beginning, on the tables that it was lent: it counts nothing yet
+abbrev pub fresh : Netlist → Rooms → Draft → Draft
+fresh n rm d = record { drivers = d.drivers; work = d.work; at = index_at (size n) rm.pins; tally = no_tally }
 
--- the same with the tables of records, and a number of cells within its bound
+-- such tables with those of records, and a number of cells within its bound
 pub data Undrawn (n : Netlist) (rm : Rooms) (w ws os fs rs : List ℕ) : Type 0 where
   undrawn : Empty n rm w ws os → fs ≡ zeros (3 * rm.dffs) → rs ≡ zeros (123 * rm.rams) → cells n ≤ 1048576 → Undrawn n rm w ws os fs rs
 

@@ -5,7 +5,7 @@ ghost use Rattle.std.specs.Prelude.{◌≡◌};
 ghost use Rattle.rules.specs.Build.{step2};
 ghost use Rattle.rules.specs.Tables.{netlist_in};
 ghost use Rattle.visits.specs.Drafting.{Moves};
-ghost use Rattle.draws.specs.Drawing.{IsEmpty, Undrawn, Drawn};
+ghost use Rattle.draws.specs.Drawing.{Empty, fresh, Undrawn, Drawn};
 
 use drafts::Draft;
 use ends::record_ends;
@@ -13,16 +13,26 @@ use flags::clock_flags;
 use rules::{NetlistTables, Rooms, Tally};
 use visits::visit_pins;
 
-// Steps 1 and 2: the pins, the literals and the outputs.
+const NO_TALLY: Tally = Tally {
+    pins: 0,
+    gates: 0,
+    outputs: 0,
+    dffs: 0,
+    rams: 0,
+};
+
+// Steps 1 and 2, from the beginning of a draft on empty tables: the pins, the literals and the outputs.
 pub fn make_pins(
     n: NetlistTables,
     draft: &mut Draft,
     outputs: &mut [u32],
     rooms: Rooms,
 ) -> Option<()>
-    requires { IsEmpty (netlist_in n) rooms draft.old outputs.old }
-    ensures { Moves (netlist_in n.entry) rooms (step2 (netlist_in n.entry)) draft.old outputs.old draft.new outputs.new result }
+    requires { Empty (netlist_in n) rooms draft.old.work.now draft.old.drivers.now outputs.old }
+    ensures { Moves (netlist_in n.entry) rooms (step2 (netlist_in n.entry)) (fresh (netlist_in n.entry) rooms draft.old) outputs.old draft.new outputs.new result }
 {
+    draft.at = 8 * n.list.len() + 2 * rooms.pins as usize + 2;
+    draft.tally = NO_TALLY;
     clock_flags(n, draft)?;
     visit_pins(n, draft, outputs, rooms)
 }
@@ -40,20 +50,11 @@ pub fn make_graph(
     requires { Undrawn (netlist_in n) rooms work.old drivers.old outputs.old dffs.old rams.old }
     ensures { Drawn (netlist_in n.entry) rooms work.old drivers.old outputs.old dffs.old rams.old work.new drivers.new outputs.new dffs.new rams.new result }
 {
-    let room = rooms.pins as usize;
-    let at = 8 * n.list.len() + 2 * room + 2;
-    let tally = Tally {
-        pins: 0,
-        gates: 0,
-        outputs: 0,
-        dffs: 0,
-        rams: 0,
-    };
     let mut draft = Draft {
         drivers,
         work,
-        at,
-        tally,
+        at: 0,
+        tally: NO_TALLY,
     };
     make_pins(n, &mut draft, outputs, rooms)?;
     record_ends(n, &mut draft, dffs, rams)?;
