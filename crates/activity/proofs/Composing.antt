@@ -20,7 +20,8 @@ use Rattle.builds.proofs.Growing.{Keeps, keeps_trans}
 use Rattle.roles.specs.Reading.{Fits}
 use Rattle.roles.proofs.Fitting.{laid}
 use Rattle.drafts.specs.declared.Draft.{Draft}
-use Rattle.drafts.specs.Table.{Added, Table, drafted, drivers_of, Open, Extends, made, added, SameLoans, Adds}
+use Rattle.drafts.specs.declared.Added.{Added}
+use Rattle.drafts.specs.Table.{Table, drafted, drivers_of, Open, Extends, made, added, SameLoans, Adds}
 use Rattle.drafts.specs.Table as table
 use Rattle.drafts.specs.Layout.{start_of}
 use Rattle.drafts.proofs.Steps.{below_refl, below_trans, ends_refl, ends_trans, Extended, extended, longer_full}

@@ -36,7 +36,8 @@ use Rattle.clocks.specs.declared.WalkEnd.TheVariants.{Root}
 use Rattle.clocks.specs.declared.Walked.{Walked}
 use Rattle.clocks.specs.Walks.{end_of, enables, told}
 use Rattle.drafts.specs.declared.Draft.{Draft}
-use Rattle.drafts.specs.Table.{Added, Table, drafted, drivers_of, Extends, SameLoans, Adds}
+use Rattle.drafts.specs.declared.Added.{Added}
+use Rattle.drafts.specs.Table.{Table, drafted, drivers_of, Extends, SameLoans, Adds}
 use Rattle.drafts.specs.Layout.{flag_word}
 use Rattle.activity.specs.Traced.{lits, Going, IsGoing, Clocked, end_lit, EndKnown, gates_over, start_at, entry_traced}
 use Rattle.drafts.proofs.Steps.{Extended, extended, longer_full}

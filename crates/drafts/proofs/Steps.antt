@@ -26,7 +26,8 @@ use Rattle.builds.proofs.Tallies.{and_only, gates_snoc}
 use Rattle.gates.specs.declared.Step.{Step}
 use Rattle.gates.specs.Step.{Ready, got, Grown, grown, full, Stepped}
 use Rattle.gates.proofs.Steps.{ready_store, ready_pin}
-use Rattle.drafts.specs.Table.{Added, Table, drafted, pushed, set_reset, gate_counted, SameEnds, Extends, made}
+use Rattle.drafts.specs.declared.Added.{Added}
+use Rattle.drafts.specs.Table.{Table, drafted, pushed, set_reset, gate_counted, SameEnds, Extends, made}
 use Rattle.drafts.specs.Table as table
 
 pub below_refl : (a : ℕ) (w : List ℕ) → SameBelow a w w

@@ -9,6 +9,7 @@ use Rattle.rules.specs.Build.{gate_count}
 use Rattle.rules.specs.Tables.{drivers_in}
 use Rattle.tallies.specs.Counted.{pin_counted}
 use Rattle.gates.specs.Step.{Ready}
+use Rattle.drafts.specs.declared.Added.{Added}
 use Rattle.drafts.specs.declared.Draft.{Draft}
 
 -- the drivers so far
@@ -36,11 +37,6 @@ pub record SameEnds (t t' : Tally) : Type 0 where
   pub outputs : t'.outputs ≡ t.outputs
   pub dffs : t'.dffs ≡ t.dffs
   pub rams : t'.rams ≡ t.rams
-
--- what a step gives: its literal, and the tallies after it
-pub record Added : Type 0 where
-  pub lit : Literal
-  pub tally : Tally
 
 -- all of m is there, and the words before the index are as they were; or the table has no room for it
 pub data Extends (at : ℕ) (m : Made) (w ws : List ℕ) (t : Tally) (w' ws' : List ℕ) (r : Option Added) : Type 0 where

@@ -2,10 +2,11 @@
 // where the table is full; how known pairs are found lies in the work words from `at` on.
 #![tactic(auto)]
 
-ghost use Rattle.std.specs.Prelude.{◌≡◌, Bool, true, false, ℕ, ◌+◌, ◌*◌, ◌<◌, ◌≤◌, length};
+ghost use Rattle.std.specs.Prelude.{◌≡◌, Bool, true, false, ℕ, List, ◌+◌, ◌*◌, ◌<◌, ◌≤◌, length};
+ghost use Rattle.rules.specs.Bounds.{max_graph_pins};
 ghost use Rattle.rules.specs.Graph.{and_of, or_not};
 ghost use Rattle.rules.specs.Build.{is_gate};
-ghost use Rattle.drafts.specs.Table.{drivers_of, pushed, set_reset, gate_counted, Open, Adds};
+ghost use Rattle.drafts.specs.Table.{Table, drafted, drivers_of, pushed, set_reset, gate_counted, Open, Extends, Adds};
 
 use drivers::put_driver;
 use gates::add_and_gate;
@@ -35,7 +36,49 @@ fn gate_counted(t: Tally, pins: u32) -> Tally
     pin_made(t, Driver::And(Literal { word: 0 }, Literal { word: 0 }))
 }
 
+// What a step gives: its literal, and the tallies after it.
+#[derive(Clone, Copy)]
+pub struct Added {
+    pub lit: Literal,
+    pub tally: Tally,
+}
+
+// A row for a pin with a driver that is no gate, whatever the work words say of known pairs.
+fn push_row(drivers: &mut [u32], t: Tally, d: Driver) -> Option<Added>
+    requires long { 3 * t.pins + 3 ≤ length drivers.old }
+    requires bounded { length drivers.old ≤ 3 * (max_graph_pins + 1) }
+    requires gates_le_pins { t.gates ≤ t.pins }
+    requires d_value { is_gate d ≡ false }
+    ensures { (at : ℕ) → (w : List ℕ) → Table at w drivers.old t → Extends at (pushed (drafted drivers.old t) d) w drivers.old t w drivers.new result }
+{
+    let pin = t.pins + 1;
+    let row = pin as usize;
+    if drivers.len() < 3 * row + 3 {
+        return None;
+    }
+    put_driver(drivers, row, d);
+    let tally = pin_made(t, d);
+    let lit = Literal { word: 2 * pin };
+    Some(Added { lit, tally })
+}
+
+// A pin with a driver that is no gate, where the work words are only read.
+pub fn push(drivers: &mut [u32], work: &[u32], at: usize, t: Tally, d: Driver) -> Option<Added>
+    requires table { Table at work.now drivers.old t }
+    requires d_value { is_gate d ≡ false }
+    ensures { Extends at (pushed (drafted drivers.old t) d) work.now drivers.old t work.now drivers.new result }
+{
+    push_row(drivers, t, d)
+}
+
 impl Draft<'_> {
+    // The work words, to be read alone.
+    pub fn words(&self) -> &[u32]
+        ensures { result.now ≡ self.now.work.now }
+    {
+        &*self.work
+    }
+
     // A pin with a driver that is no gate.
     pub fn push(&mut self, d: Driver) -> Option<Literal>
         requires open { Open self.old }
@@ -43,15 +86,9 @@ impl Draft<'_> {
         ensures adds { Adds (pushed (drivers_of self.old) d) self.old self.new result }
         ensures same_words { self.new.work.now ≡ self.old.work.now }
     {
-        let pin = self.tally.pins + 1;
-        let row = pin as usize;
-        if self.drivers.len() < 3 * row + 3 {
-            return None;
-        }
-        put_driver(self.drivers, row, d);
-        self.tally = pin_made(self.tally, d);
-        let word = 2 * pin;
-        Some(Literal { word })
+        let made = push_row(self.drivers, self.tally, d)?;
+        self.tally = made.tally;
+        Some(made.lit)
     }
 
     // The AND of two literals.

@@ -1,19 +1,21 @@
 -- A record's pin is there: what a flip-flop's or a RAM's step leaves.
-use mathlib.Core.Path.{◌≡◌, ap, subst, ◌∙◌}
+use mathlib.Core.Path.{◌≡◌, sym, ap, subst, ◌∙◌}
 use mathlib.Core.List.{List}
 use Prim.Native.Nat.{ℕ, ◌+◌, ◌*◌}
 use lib.ListN.{set}
-use Rattle.std.specs.Prelude.{Option, Some}
+use Rattle.std.specs.Prelude.{Option, Some, None}
 use Rattle.std.specs.Borrow.{MutBor}
+use Rattle.rules.specs.declared.Driver.{Driver}
 use Rattle.rules.specs.declared.Driver.TheVariants.{Dff, Ram}
 use Rattle.rules.specs.declared.Literal.{Literal}
 use Rattle.rules.specs.declared.Tally.{Tally}
 use Rattle.drafts.specs.declared.Draft.{Draft}
-use Rattle.drafts.specs.Table.{Added, drafted, pushed, Extends, drivers_of, added, SameLoans, Adds}
+use Rattle.drafts.specs.declared.Added.{Added}
+use Rattle.drafts.specs.Table.{drafted, pushed, Extends, drivers_of, added, SameLoans, Adds}
 use Rattle.drafts.specs.Table as draft
 use Rattle.drafts.proofs.Steps.{extended}
 use Rattle.numbers.specs.Numbering.{counted, numbered, flops_counted, rams_counted}
-use Rattle.entries.specs.Made.{own_words, data_words, FlopMade, flop, RamMade, ram, AddsFlop, AddsRam}
+use Rattle.entries.specs.Made.{own_words, data_words, FlopMade, flop, RamMade, ram, Stands, pinned, AddsFlop, AddsRam}
 
 module _ (m at room cell place : ℕ) (w ws : List ℕ) (t : Tally) (ws' : List ℕ) (step : Added) where
   pub flop_fits : Extends at (pushed (drafted ws t) (Dff cell)) w ws t w ws' (Some step) → (w' : List ℕ) (r : Option Tally)
@@ -37,28 +39,38 @@ module _ (m at room cell place : ℕ) (w ws : List ℕ) (t : Tally) (ws' : List 
 
 -- ---- the same of drafts
 module _ (m room cell place : ℕ) (d d₁ : Draft) (same : d₁.work.now ≡ d.work.now) where
+  -- where the record does not fit, the tally is that of the table with the pin
+  stands : (p : Driver) (lit : Literal) → Adds (pushed (drivers_of d) p) d d₁ (Some lit) → (work : MutBor (List ℕ)) (tally : Tally) → tally ≡ d₁.tally
+      → Stands p d (record d₁ { work = work; tally = tally })
+  stands p lit a work tally e =
+      let x = extended d.at (pushed (drivers_of d) p) d.work.now d.drivers.now d.tally d.work.now d₁.drivers.now (record { lit = lit; tally = d₁.tally })
+      (subst (λ (w : List ℕ). Extends d.at (pushed (drivers_of d) p) d.work.now d.drivers.now d.tally w d₁.drivers.now (added (Some lit) d₁.tally)) same a.extends) in
+      subst (λ (t : Tally). Stands p d (record d₁ { work = work; tally = t })) (sym e) (pinned x.table x.drivers x.ends)
+
   pub adds_flop : (lit : Literal) → Adds (pushed (drivers_of d) (Dff cell)) d d₁ (Some lit) → (work : MutBor (List ℕ)) (tally : Tally) (r : Option (Unit {0}))
-      → work.ghost_name ≡ d₁.work.ghost_name → work.now ≡ numbered (own_words d₁.work.now m place d₁.tally) (6 * m + place) d₁.tally.dffs
+      → (r ≡ None → tally ≡ d₁.tally) → work.ghost_name ≡ d₁.work.ghost_name → work.now ≡ numbered (own_words d₁.work.now m place d₁.tally) (6 * m + place) d₁.tally.dffs
       → (count : ℕ) → count ≡ counted (own_words d₁.work.now m place d₁.tally) (6 * m + place) d₁.tally.dffs
       → draft.counted r tally ≡ flops_counted d₁.tally count room
       → AddsFlop m room cell place d (record d₁ { work = work; tally = tally }) r
-  adds_flop lit a work tally r g ew count ec er = record {
+  adds_flop lit a work tally r k g ew count ec er = record {
     loans = record { drivers = a.loans.drivers; work = g ∙ a.loans.work; place = a.loans.place };
     made = flop_fits m d.at room cell place d.work.now d.drivers.now d.tally d₁.drivers.now (record { lit = lit; tally = d₁.tally })
         (subst (λ (w : List ℕ). Extends d.at (pushed (drivers_of d) (Dff cell)) d.work.now d.drivers.now d.tally w d₁.drivers.now (added (Some lit) d₁.tally)) same a.extends)
         work.now (draft.counted r tally)
         (ew ∙ ap (λ (w : List ℕ). numbered (own_words w m place d₁.tally) (6 * m + place) d₁.tally.dffs) same)
-        (er ∙ ap (λ (k : ℕ). flops_counted d₁.tally k room) (ec ∙ ap (λ (w : List ℕ). counted (own_words w m place d₁.tally) (6 * m + place) d₁.tally.dffs) same));
+        (er ∙ ap (λ (n : ℕ). flops_counted d₁.tally n room) (ec ∙ ap (λ (w : List ℕ). counted (own_words w m place d₁.tally) (6 * m + place) d₁.tally.dffs) same));
+    kept = λ e. stands (Dff cell) lit a work tally (k e);
   }
 
   pub adds_ram : (p : ℕ) (lit : Literal) → Adds (pushed (drivers_of d) (Ram cell)) d d₁ (Some lit) → (work : MutBor (List ℕ)) (tally : Tally) (r : Option (Unit {0})) (w₁ : List ℕ)
-      → work.ghost_name ≡ d₁.work.ghost_name → w₁ ≡ set d₁.work.now (7 * m + p) lit.word → work.now ≡ numbered w₁ (6 * m + place) d₁.tally.rams
+      → (r ≡ None → tally ≡ d₁.tally) → work.ghost_name ≡ d₁.work.ghost_name → w₁ ≡ set d₁.work.now (7 * m + p) lit.word → work.now ≡ numbered w₁ (6 * m + place) d₁.tally.rams
       → (count : ℕ) → count ≡ counted w₁ (6 * m + place) d₁.tally.rams → draft.counted r tally ≡ rams_counted d₁.tally count room
       → AddsRam m room cell place p d (record d₁ { work = work; tally = tally }) r
-  adds_ram p lit a work tally r w₁ g e₁ ew count ec er = record {
+  adds_ram p lit a work tally r w₁ k g e₁ ew count ec er = record {
     loans = record { drivers = a.loans.drivers; work = g ∙ a.loans.work; place = a.loans.place };
     made = ram_fits m d.at room cell place d.work.now d.drivers.now d.tally d₁.drivers.now (record { lit = lit; tally = d₁.tally }) p
         (subst (λ (w : List ℕ). Extends d.at (pushed (drivers_of d) (Ram cell)) d.work.now d.drivers.now d.tally w d₁.drivers.now (added (Some lit) d₁.tally)) same a.extends)
         w₁ work.now (draft.counted r tally) (e₁ ∙ ap (λ (w : List ℕ). set w (7 * m + p) lit.word) same) ew
-        (er ∙ ap (λ (k : ℕ). rams_counted d₁.tally k room) ec);
+        (er ∙ ap (λ (n : ℕ). rams_counted d₁.tally n room) ec);
+    kept = λ e. stands (Ram cell) lit a work tally (k e);
   }

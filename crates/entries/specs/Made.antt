@@ -1,10 +1,11 @@
 -- What the tables and the work words hold once an entry is made; or that there is no room for it.
 use Rattle.std.specs.Prelude.{◌≡◌, Option, Some, None, List, [], ◌∷◌, ◌++◌, ℕ, ◌+◌, ◌*◌, ◌<◌, ◌≤◌, length, get_or, set}
+use Rattle.rules.specs.declared.Driver.{Driver}
 use Rattle.rules.specs.declared.Driver.TheVariants.{Dff, Ram}
 use Rattle.rules.specs.declared.Tally.{Tally}
 use Rattle.tallies.specs.Counted.{output_counted}
 use Rattle.drafts.specs.declared.Draft.{Draft}
-use Rattle.drafts.specs.Table.{Table, drafted, SameEnds, SameLoans}
+use Rattle.drafts.specs.Table.{Table, drafted, drivers_of, SameEnds, SameLoans}
 use Rattle.drafts.specs.Table as draft
 use Rattle.numbers.specs.Numbering.{counted, numbered, flops_counted, rams_counted}
 
@@ -38,13 +39,20 @@ pub data OutputMade (m p l : ℕ) (w os : List ℕ) (t : Tally) (w' os' : List �
       → OutputMade m p l w os t w' os' r
 
 -- ---- the same of a draft
+-- where no entry is made: the driver table had no room for the pin; or it has the pin, and the tally is that of the table
+pub data Stands (p : Driver) (d d' : Draft) : Type 0 where
+  no_pin : length d.drivers.now < 3 * length (drivers_of d ++ (p ∷ [])) → Stands p d d'
+  pinned : Table d.at d.work.now d'.drivers.now d'.tally → drivers_of d' ≡ drivers_of d ++ (p ∷ []) → SameEnds d.tally d'.tally → Stands p d d'
+
 pub record AddsFlop (m room cell place : ℕ) (d d' : Draft) (r : Option (Unit {0})) : Type 0 where
   pub loans : SameLoans d d'
   pub made : FlopMade m d.at room cell place d.work.now d.drivers.now d.tally d'.work.now d'.drivers.now (draft.counted r d'.tally)
+  pub kept : r ≡ None → Stands (Dff cell) d d'
 
 pub record AddsRam (m room cell place p : ℕ) (d d' : Draft) (r : Option (Unit {0})) : Type 0 where
   pub loans : SameLoans d d'
   pub made : RamMade m d.at room cell place p d.work.now d.drivers.now d.tally d'.work.now d'.drivers.now (draft.counted r d'.tally)
+  pub kept : r ≡ None → Stands (Ram cell) d d'
 
 pub record AddsOutput (m p l : ℕ) (d : Draft) (os : List ℕ) (d' : Draft) (os' : List ℕ) (r : Option (Unit {0})) : Type 0 where
   pub loans : SameLoans d d'

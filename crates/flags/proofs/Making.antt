@@ -19,7 +19,8 @@ use Rattle.rules.proofs.Tables.{clash}
 use Rattle.drivers.proofs.Rows.{drivers_long_lem, driver_old, one-longer}
 use Rattle.builds.proofs.Ands.{flag_self, flag_only, known_same}
 use Rattle.drafts.specs.declared.Draft.{Draft}
-use Rattle.drafts.specs.Table.{Added, drafted, pushed, Extends, drivers_of, added, SameLoans, Adds}
+use Rattle.drafts.specs.declared.Added.{Added}
+use Rattle.drafts.specs.Table.{drafted, pushed, Extends, drivers_of, added, SameLoans, Adds}
 use Rattle.drafts.specs.Table as table
 use Rattle.drafts.specs.Layout.{flag_word, Flags}
 use Rattle.drafts.proofs.Steps.{ends_refl, table_store, extended}

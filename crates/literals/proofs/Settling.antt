@@ -18,7 +18,8 @@ use Rattle.rules.proofs.Tables.{clash, of_name}
 use Rattle.roles.specs.Reading.{tables, Fits, entry_of, either_in, cell_pins}
 use Rattle.roles.proofs.Roles.{either_same}
 use Rattle.drafts.specs.declared.Draft.{Draft}
-use Rattle.drafts.specs.Table.{Added, Table, drivers_of, set_reset, Extends, Adds}
+use Rattle.drafts.specs.declared.Added.{Added}
+use Rattle.drafts.specs.Table.{Table, drivers_of, set_reset, Extends, Adds}
 use Rattle.drafts.proofs.Steps.{table_store, extended}
 use Rattle.literals.specs.Settled.{word_at, turned_made, Left, left, Leaves}
 
@@ -54,13 +55,13 @@ module _ (m p : ℕ) (k : Made) (d d₁ : Draft) (lit : Literal) (a : Adds k d d
   leaves_plain h = leaves_turned false lit refl h
 
 -- ---- the output of an AND2
-pub leaves_and : (m p : ℕ) (x y z : Bool) (a b : ℕ) (d d₁ : Draft) (r : Option (Unit {0})) (one two : Literal)
-    → one.word ≡ opposite_if x (word_at d.work.now m a) → two.word ≡ opposite_if y (word_at d.work.now m b)
+pub leaves_and : (m p : ℕ) (x y z : Bool) (a b : ℕ) (d d₁ : Draft) (r : Option (Unit {0})) (work : List ℕ) → work ≡ d.work.now → (one two : Literal)
+    → one.word ≡ opposite_if x (word_at work m a) → two.word ≡ opposite_if y (word_at work m b)
     → Leaves m p (turned_made z (and_of (drivers_of d) one.word two.word)) d d₁ r
     → Leaves m p (turned_made z (and_of (drivers_of d) (opposite_if x (word_at d.work.now m a)) (opposite_if y (word_at d.work.now m b)))) d d₁ r
-leaves_and m p x y z a b d d₁ r one two e₁ e₂ s =
-    subst (λ (u : ℕ). Leaves m p (turned_made z (and_of (drivers_of d) (opposite_if x (word_at d.work.now m a)) u)) d d₁ r) e₂
-    (subst (λ (u : ℕ). Leaves m p (turned_made z (and_of (drivers_of d) u two.word)) d d₁ r) e₁ s)
+leaves_and m p x y z a b d d₁ r work q one two e₁ e₂ s =
+    subst (λ (u : ℕ). Leaves m p (turned_made z (and_of (drivers_of d) (opposite_if x (word_at d.work.now m a)) u)) d d₁ r) (e₂ ∙ ap (λ (w : List ℕ). opposite_if y (word_at w m b)) q)
+    (subst (λ (u : ℕ). Leaves m p (turned_made z (and_of (drivers_of d) u two.word)) d d₁ r) (e₁ ∙ ap (λ (w : List ℕ). opposite_if x (word_at w m a)) q) s)
 
 -- ---- the literal of a cell's pin by its name
 pub first_some : (d : ℕ) (f : ℕ → ℕ) (l : List ℕ) (q : ℕ) → Some q ≡ entry_of l 0 → f q ≡ first_or d f l

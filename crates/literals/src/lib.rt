@@ -15,14 +15,12 @@ use drafts::Draft;
 use roles::cell_entry;
 use rules::{Driver, Literal, NetlistTables};
 
-pub fn literal_at(draft: &Draft, m: usize, p: u32) -> Literal
-    requires { 7 * m + p < length draft.now.work.now }
-    ensures { result.word ≡ get_or draft.now.work.now (7 * m + p) 0 }
+pub fn literal_at(work: &[u32], m: usize, p: u32) -> Literal
+    requires { 7 * m + p < length work.now }
+    ensures { result.word ≡ get_or work.now (7 * m + p) 0 }
 {
     let place = 7 * m + p as usize;
-    Literal {
-        word: draft.work[place],
-    }
+    Literal { word: work[place] }
 }
 
 pub fn put_literal(work: &mut [u32], m: usize, p: u32, lit: Literal)
@@ -52,11 +50,11 @@ pub fn port_out(draft: &mut Draft, m: usize, p: u32) -> Option<()>
 }
 
 // The literal of a pin, or its opposite where x says so.
-pub fn operand(draft: &Draft, m: usize, p: u32, x: bool) -> Literal
-    requires { 7 * m + p < length draft.now.work.now }
-    ensures { result.word ≡ opposite_if x (word_at draft.now.work.now m p) }
+pub fn operand(work: &[u32], m: usize, p: u32, x: bool) -> Literal
+    requires { 7 * m + p < length work.now }
+    ensures { result.word ≡ opposite_if x (word_at work.now m p) }
 {
-    let lit = literal_at(draft, m, p);
+    let lit = literal_at(work, m, p);
     turned(x, lit)
 }
 
@@ -89,8 +87,9 @@ pub fn and_out(
     requires b_bound { 7 * m + b < draft.old.at }
     ensures { Leaves m p (turned_made z (and_of (drivers_of draft.old) (opposite_if x (word_at draft.old.work.now m a)) (opposite_if y (word_at draft.old.work.now m b)))) draft.old draft.new result }
 {
-    let one = operand(draft, m, a, x);
-    let two = operand(draft, m, b, y);
+    let work = draft.words();
+    let one = operand(work, m, a, x);
+    let two = operand(work, m, b, y);
     and_left(draft, m, p, one, two, z)
 }
 
@@ -102,7 +101,7 @@ pub fn named_literal(n: NetlistTables, draft: &Draft, cell: u32, name: u32, abse
     ensures { result.word ≡ first_or absent (word_at draft.now.work.now (length n.entry.list.now)) (named (netlist_in n.entry) cell name) }
 {
     match cell_entry(n.starts, n.list, n.pins, cell, name, name, 0) {
-        Some(q) => literal_at(draft, n.list.len(), q),
+        Some(q) => literal_at(draft.work, n.list.len(), q),
         None => Literal { word: absent },
     }
 }

@@ -97,7 +97,7 @@ fn clocked_row(
     ensures { ClockedDone (netlist_in n.entry) cell k draft.old read.word write.word rams.old draft.new rams.new result }
 {
     let from = 123 * k;
-    fill_row(n, draft, rams, cell, from);
+    fill_row(n, draft.words(), rams, cell, from);
     rams[from] = read.word;
     write_bits(draft, rams, from + 59, write)
 }

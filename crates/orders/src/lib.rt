@@ -13,9 +13,9 @@ use rules::{NetlistTables, Refusal};
 
 // A place in the visits: the stack's height, and how many events are written.
 #[derive(Clone, Copy)]
-struct Place {
-    height: usize,
-    count: usize,
+pub struct Place {
+    pub height: usize,
+    pub count: usize,
 }
 
 // The first place where the visit of a pin goes that was not entered, or none where all were left. One on the stack is a

@@ -9,7 +9,6 @@ ghost use Rattle.roles.specs.Reading.{Held, entry_of};
 ghost use Rattle.flops.specs.Flopped.{Known};
 ghost use Rattle.rows.specs.Words.{has_bit, bit_lit, plain_word};
 
-use drafts::Draft;
 use literals::literal_at;
 use roles::pin_word;
 use rules::NetlistTables;
@@ -39,8 +38,8 @@ fn entry_bit(list: &[u32], pins: &[u32], from: usize, n: usize, name: u32, bit: 
 }
 
 // The literal of a cell's pin with a name and a bit; 0 where there is none.
-fn cell_bit(n: NetlistTables, draft: &Draft, cell: u32, name: u32, bit: u32) -> u32
-    requires known { Known (netlist_in n) draft.now.work.now }
+fn cell_bit(n: NetlistTables, work: &[u32], cell: u32, name: u32, bit: u32) -> u32
+    requires known { Known (netlist_in n) work.now }
     requires cell_in_bounds { cell < length n.kinds.now }
     ensures { result ≡ bit_lit (netlist_in n.entry) cell name bit }
 {
@@ -50,35 +49,35 @@ fn cell_bit(n: NetlistTables, draft: &Draft, cell: u32, name: u32, bit: u32) -> 
     let count = end - from;
     let found = entry_bit(n.list, n.pins, from, count, name, bit);
     match found {
-        Some(p) => literal_at(draft, n.list.len(), p).word,
+        Some(p) => literal_at(work, n.list.len(), p).word,
         None => 0,
     }
 }
 
 // Word j of a cell's row.
-fn row_word(n: NetlistTables, draft: &Draft, cell: u32, j: u32) -> u32
-    requires known { Known (netlist_in n) draft.now.work.now }
+fn row_word(n: NetlistTables, work: &[u32], cell: u32, j: u32) -> u32
+    requires known { Known (netlist_in n) work.now }
     requires cell_in_bounds { cell < length n.kinds.now }
     ensures { result ≡ plain_word (netlist_in n.entry) cell j }
 {
     match j {
         0 => 0,
-        1..=13 => cell_bit(n, draft, cell, 10, j - 1),
-        14..=45 => cell_bit(n, draft, cell, 12, j - 14) / 2,
-        46..=58 => cell_bit(n, draft, cell, 13, j - 46),
-        59..=90 => cell_bit(n, draft, cell, 16, j - 59),
-        _ => cell_bit(n, draft, cell, 15, j - 91),
+        1..=13 => cell_bit(n, work, cell, 10, j - 1),
+        14..=45 => cell_bit(n, work, cell, 12, j - 14) / 2,
+        46..=58 => cell_bit(n, work, cell, 13, j - 46),
+        59..=90 => cell_bit(n, work, cell, 16, j - 59),
+        _ => cell_bit(n, work, cell, 15, j - 91),
     }
 }
 
 // A cell's row from a place of the table on.
-pub fn fill_row(n: NetlistTables, draft: &Draft, rams: &mut [u32], cell: u32, from: usize)
-    requires known { Known (netlist_in n) draft.now.work.now }
+pub fn fill_row(n: NetlistTables, work: &[u32], rams: &mut [u32], cell: u32, from: usize)
+    requires known { Known (netlist_in n) work.now }
     requires cell_in_bounds { cell < length n.kinds.now }
     requires from_in_bounds { «from» + 123 ≤ length rams.old }
     ensures { Writing rams.old «from» (plain_word (netlist_in n.entry) cell) 123 rams.new }
 {
     for j in 0..123 {
-        rams[from + j as usize] = row_word(n, draft, cell, j);
+        rams[from + j as usize] = row_word(n, work, cell, j);
     }
 }

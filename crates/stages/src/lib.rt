@@ -6,7 +6,8 @@ ghost use Rattle.stages.specs.State.{LevelAt, StartIn, PlannedIn};
 
 use rules::{GraphTables, Refusal};
 use subsets::num_endpoint_groups;
-use turns::{Plan, Run, Step, stage};
+pub use turns::Plan;
+use turns::{Run, Step, stage};
 use words::word;
 
 // An upper end, and the difference from the lower one.

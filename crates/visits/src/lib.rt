@@ -108,12 +108,12 @@ fn leave_pin(
             Some(())
         }
         Leaving::Copy(q, x) => {
-            let lit = operand(draft, m, q, x);
+            let lit = operand(draft.words(), m, q, x);
             put_literal(draft.work, m, p, lit);
             Some(())
         }
         Leaving::Output(q) => {
-            let lit = literal_at(draft, m, q);
+            let lit = literal_at(draft.words(), m, q);
             add_output(draft, outputs, m, p, lit)
         }
         Leaving::Input => port_out(draft, m, p),

@@ -14,7 +14,7 @@ use Rattle.laws.specs.Tests.{◌<?◌}
 use Rattle.laws.specs.Words.{part, zeros, filled}
 use Rattle.laws.proofs.Tests.{by_test, true≢false, and_l, and_r}
 use Rattle.laws.proofs.Indices.{every_at, every_entry}
-use Rattle.laws.proofs.Words.{part_is, zeros-length, filled-length, filled_at, filled_past, zeros_at, zeros_is}
+use Rattle.laws.proofs.Words.{part_is, part_at, part_length, zeros-length, filled-length, filled_at, filled_past, zeros_at, zeros_is}
 use Rattle.words.specs.Tables.{written, same_words, all_zero}
 
 -- ---- words written into a table, word by word
@@ -91,11 +91,6 @@ unfolding written
 put_mid_written t ws vs a k e l =
     ap (λ (c : List ℕ). take a t ++ (c ++ drop k (drop a t))) e ∙ ap (λ (c : List ℕ). take a t ++ (ws ++ c)) (drop-drop k a t ∙ ap (λ (j : ℕ). drop (a + j) t) (sym l))
 
--- the words of a range of a table
-pub range_part : (f vs : List ℕ) (b n : ℕ) → vs ≡ take (b + n - b) (drop b f) → vs ≡ part f b n
-unfolding part
-range_part f vs b n e = let q : b + n - b ≡ n = omega arith in e ∙ ap (λ (k : ℕ). take k (drop b f)) q
-
 -- one word over a range of a table
 pub range_filled : (t vs : List ℕ) (a n v : ℕ) → a + n ≤ length t → vs ≡ replicate (length (take (a + n - a) (drop a t))) v → vs ≡ replicate n v
 range_filled t vs a n v h e =
@@ -121,6 +116,27 @@ writing_goes_on t a w i s v g l e = record {
   before = λ j b. get_or-set_other s (a + i) j v 0 (omega arith) ∙ g.before j b;
   after = λ j b. get_or-set_other s (a + i) j v 0 (omega arith) ∙ g.after j (omega arith);
 }
+
+pub writing_ends : (t : List ℕ) (a : ℕ) (w : ℕ → ℕ) (i : ℕ) (s ws : List ℕ) → Writing t a w i s → length ws ≡ i → a + i ≤ length t → ((k : ℕ) → k < i → get_or ws k 0 ≡ w k) → s ≡ written t a ws
+writing_ends t a w i s ws g e h same = written_is t a ws (omega arith) s g.long g.before
+    (λ k l. g.done k (omega arith) ∙ sym (same k (omega arith)))
+    (λ j l. g.after j (omega arith))
+
+-- the same, as `copy` has it
+pub record Copying (f : List ℕ) (b : ℕ) (t : List ℕ) (a i : ℕ) (s : List ℕ) : Type 0 where
+  pub writing : Writing t a (λ k. get_or f (b + k) 0) i s
+
+pub copy_begins : (f : List ℕ) (b : ℕ) (t : List ℕ) (a : ℕ) → Copying f b t a 0 t
+copy_begins f b t a = record { writing = writing_begins t a (λ k. get_or f (b + k) 0) }
+
+module _ (f : List ℕ) (b : ℕ) (t : List ℕ) (a n i : ℕ) (s : List ℕ) (g : Copying f b t a i s) (hf : b + n ≤ length f) (h : a + n ≤ length t) where
+  pub copy_goes_on : (v : ℕ) → i < n → v ≡ get_or f (b + i) 0 → Copying f b t a (i + 1) (set s (a + i) v)
+  copy_goes_on v l e = record { writing = writing_goes_on t a (λ k. get_or f (b + k) 0) i s v g.writing (omega arith) e }
+
+  pub copy_ends : i ≤ n → n ≤ i → s ≡ written t a (part f b n)
+  copy_ends l r =
+      let e : i ≡ n = omega arith in
+      writing_ends t a (λ k. get_or f (b + k) 0) i s (part f b n) g.writing (part_length f b n hf ∙ sym e) (omega arith) (λ k c. part_at f b n k (omega arith))
 
 -- ---- two tables compared
 pub same_words_lem : (a b : List ℕ) → same_words a b ≡ true → a ≡ b

@@ -27,13 +27,16 @@ pub fn fill(s: &mut [u32], at: usize, n: usize, v: u32)
     s[at..at + n].fill(v);
 }
 
-// The n words of to from at on are those of from that start at a; the rest is kept.
+// The n words of to from at on are those of from that start at a; the rest is kept. Word by word, since the slice's own method
+// would have the archive for C ask for memmove from outside.
 pub fn copy(from: &[u32], a: usize, to: &mut [u32], at: usize, n: usize)
     requires n_in_bounds { a + n ≤ length «from».now }
     requires n_in_bounds_2 { at + n ≤ length to.old }
     ensures { to.new ≡ written to.old at (part «from».now a n) }
 {
-    to[at..at + n].copy_from_slice(&from[a..a + n]);
+    for i in 0..n {
+        to[at + i] = word(from, a + i);
+    }
 }
 
 // Are two tables equal?
