@@ -39,15 +39,19 @@ module _ (m at room cell place : ℕ) (w ws : List ℕ) (t : Tally) (ws' : List 
 
 -- ---- the same of drafts
 module _ (m room cell place : ℕ) (d d₁ : Draft) (same : d₁.work.now ≡ d.work.now) where
+  -- the pin's step, over the words of before
+  pinned_over : (p : Driver) (lit : Literal) → Adds (pushed (drivers_of d) p) d d₁ (Some lit)
+      → Extends d.at (pushed (drivers_of d) p) d.work.now d.drivers.now d.tally d.work.now d₁.drivers.now (added (Some lit) d₁.tally)
+  pinned_over p lit a = subst (λ (w : List ℕ). Extends d.at (pushed (drivers_of d) p) d.work.now d.drivers.now d.tally w d₁.drivers.now (added (Some lit) d₁.tally)) same a.extends
+
   -- where the record does not fit, the tally is that of the table with the pin
   stands : (p : Driver) (lit : Literal) → Adds (pushed (drivers_of d) p) d d₁ (Some lit) → (work : MutBor (List ℕ)) (tally : Tally) → tally ≡ d₁.tally
       → Stands p d (record d₁ { work = work; tally = tally })
   stands p lit a work tally e =
-      let x = extended d.at (pushed (drivers_of d) p) d.work.now d.drivers.now d.tally d.work.now d₁.drivers.now (record { lit = lit; tally = d₁.tally })
-      (subst (λ (w : List ℕ). Extends d.at (pushed (drivers_of d) p) d.work.now d.drivers.now d.tally w d₁.drivers.now (added (Some lit) d₁.tally)) same a.extends) in
+      let x = extended d.at (pushed (drivers_of d) p) d.work.now d.drivers.now d.tally d.work.now d₁.drivers.now (record { lit = lit; tally = d₁.tally }) (pinned_over p lit a) in
       subst (λ (t : Tally). Stands p d (record d₁ { work = work; tally = t })) (sym e) (pinned x.table x.drivers x.ends)
 
-  -- what is made, whatever the tally where the record does not fit
+  -- what is made; nothing is asked of the tally where the record does not fit, so that nothing is said of it
   pub adds_flop : (lit : Literal) → Adds (pushed (drivers_of d) (Dff cell)) d d₁ (Some lit) → (work : MutBor (List ℕ)) (tally : Tally) (r : Option (Unit {0}))
       → work.ghost_name ≡ d₁.work.ghost_name → work.now ≡ numbered (own_words d₁.work.now m place d₁.tally) (6 * m + place) d₁.tally.dffs
       → (count : ℕ) → count ≡ counted (own_words d₁.work.now m place d₁.tally) (6 * m + place) d₁.tally.dffs
@@ -57,13 +61,13 @@ module _ (m room cell place : ℕ) (d d₁ : Draft) (same : d₁.work.now ≡ d.
   adds_flop lit a work tally r g ew count ec er = (
     record { drivers = a.loans.drivers; work = g ∙ a.loans.work; place = a.loans.place },
     flop_fits m d.at room cell place d.work.now d.drivers.now d.tally d₁.drivers.now (record { lit = lit; tally = d₁.tally })
-        (subst (λ (w : List ℕ). Extends d.at (pushed (drivers_of d) (Dff cell)) d.work.now d.drivers.now d.tally w d₁.drivers.now (added (Some lit) d₁.tally)) same a.extends)
+        (pinned_over (Dff cell) lit a)
         work.now (draft.counted r tally)
         (ew ∙ ap (λ (w : List ℕ). numbered (own_words w m place d₁.tally) (6 * m + place) d₁.tally.dffs) same)
         (er ∙ ap (λ (n : ℕ). flops_counted d₁.tally n room) (ec ∙ ap (λ (w : List ℕ). counted (own_words w m place d₁.tally) (6 * m + place) d₁.tally.dffs) same)),
   )
 
-  -- and where it is kept, all of it
+  -- the whole promise, for a caller who knows that tally to be the one with the pin
   pub adds_flop_kept : (lit : Literal) → Adds (pushed (drivers_of d) (Dff cell)) d d₁ (Some lit) → (work : MutBor (List ℕ)) (tally : Tally) (r : Option (Unit {0}))
       → (r ≡ None → tally ≡ d₁.tally) → work.ghost_name ≡ d₁.work.ghost_name → work.now ≡ numbered (own_words d₁.work.now m place d₁.tally) (6 * m + place) d₁.tally.dffs
       → (count : ℕ) → count ≡ counted (own_words d₁.work.now m place d₁.tally) (6 * m + place) d₁.tally.dffs
@@ -73,7 +77,7 @@ module _ (m room cell place : ℕ) (d d₁ : Draft) (same : d₁.work.now ≡ d.
       let b = adds_flop lit a work tally r g ew count ec er in
       record { loans = b.0; made = b.1; kept = λ e. stands (Dff cell) lit a work tally (k e) }
 
-  -- what is made, whatever the tally where the record does not fit
+  -- what is made; nothing is asked of the tally where the record does not fit, so that nothing is said of it
   pub adds_ram : (p : ℕ) (lit : Literal) → Adds (pushed (drivers_of d) (Ram cell)) d d₁ (Some lit) → (work : MutBor (List ℕ)) (tally : Tally) (r : Option (Unit {0})) (w₁ : List ℕ)
       → work.ghost_name ≡ d₁.work.ghost_name → w₁ ≡ set d₁.work.now (7 * m + p) lit.word → work.now ≡ numbered w₁ (6 * m + place) d₁.tally.rams
       → (count : ℕ) → count ≡ counted w₁ (6 * m + place) d₁.tally.rams → draft.counted r tally ≡ rams_counted d₁.tally count room
@@ -82,12 +86,12 @@ module _ (m room cell place : ℕ) (d d₁ : Draft) (same : d₁.work.now ≡ d.
   adds_ram p lit a work tally r w₁ g e₁ ew count ec er = (
     record { drivers = a.loans.drivers; work = g ∙ a.loans.work; place = a.loans.place },
     ram_fits m d.at room cell place d.work.now d.drivers.now d.tally d₁.drivers.now (record { lit = lit; tally = d₁.tally }) p
-        (subst (λ (w : List ℕ). Extends d.at (pushed (drivers_of d) (Ram cell)) d.work.now d.drivers.now d.tally w d₁.drivers.now (added (Some lit) d₁.tally)) same a.extends)
+        (pinned_over (Ram cell) lit a)
         w₁ work.now (draft.counted r tally) (e₁ ∙ ap (λ (w : List ℕ). set w (7 * m + p) lit.word) same) ew
         (er ∙ ap (λ (n : ℕ). rams_counted d₁.tally n room) ec),
   )
 
-  -- and where it is kept, all of it
+  -- the whole promise, for a caller who knows that tally to be the one with the pin
   pub adds_ram_kept : (p : ℕ) (lit : Literal) → Adds (pushed (drivers_of d) (Ram cell)) d d₁ (Some lit) → (work : MutBor (List ℕ)) (tally : Tally) (r : Option (Unit {0})) (w₁ : List ℕ)
       → (r ≡ None → tally ≡ d₁.tally) → work.ghost_name ≡ d₁.work.ghost_name → w₁ ≡ set d₁.work.now (7 * m + p) lit.word → work.now ≡ numbered w₁ (6 * m + place) d₁.tally.rams
       → (count : ℕ) → count ≡ counted w₁ (6 * m + place) d₁.tally.rams → draft.counted r tally ≡ rams_counted d₁.tally count room
